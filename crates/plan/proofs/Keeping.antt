@@ -60,7 +60,7 @@ keep-push pits (e ∷ es) d keep own new =
     let f = keep-front pits e es keep in
     let parts = or-parts (joins e (d .first) (d .second)) (isSome (between es (d .first) (d .second))) (sym (between-front e es (d .first) (d .second)) ∙ new) in
     let apart : isSome (between (d ∷ []) (e .first) (e .second)) ≡ false =
-        between-front d [] (e .first) (e .second) ∙ or-from (joins d (e .first) (e .second)) false (joins-sym d e ∙ parts .0) refl in
+    between-front d [] (e .first) (e .second) ∙ or-from (joins d (e .first) (e .second)) false (joins-sym d e ∙ parts .0) refl in
     keep-from pits e (es ++ d ∷ [])
     (record {
       own = f .own;
@@ -78,8 +78,7 @@ keep-middle pits (c ∷ cs) d es keep =
     let f = keep-front pits c (cs ++ d ∷ es) keep in
     let on = keep-middle pits cs d es (f .rest) in
     let clear = or-parts (isSome (between cs (c .first) (c .second))) (isSome (between (d ∷ es) (c .first) (c .second))) (sym (between-append cs (d ∷ es) (c .first) (c .second)) ∙ f .new) in
-    let apart = or-parts (joins d (c .first) (c .second)) (isSome (between es (c .first) (c .second))) (sym (between-front d es (c .first) (c .second)) ∙ clear .1) in
-    (
+    let apart = or-parts (joins d (c .first) (c .second)) (isSome (between es (c .first) (c .second))) (sym (between-front d es (c .first) (c .second)) ∙ clear .1) in (
       on .0,
       between-front c cs (d .first) (d .second) ∙ or-from (joins c (d .first) (d .second)) (isSome (between cs (d .first) (d .second))) (joins-sym c d ∙ apart .0) (on .1),
     )

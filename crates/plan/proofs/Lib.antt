@@ -1,3 +1,4 @@
 pub mod Keeping
 pub mod Ruling
 pub mod Finding
+pub mod Editing

@@ -11,4 +11,5 @@ pub const MAX_LENGTH: u32 = 1_000_000;
 
 // A bore is MIN_BORE to MAX_BORE millimetres.
 pub const MIN_BORE: u16 = 10;
+
 pub const MAX_BORE: u16 = 300;

@@ -101,7 +101,8 @@ impl Refusal {
             Refusal::PitCount => "a plan has 1 to 512 pits",
             Refusal::DuctCount => "a plan has at most 1024 ducts",
             Refusal::FileSize => "a plan file has exactly 4 bytes and 10 more for each duct",
-            Refusal::Ends { .. } => "a duct's first end is below its second, and both are pits of the plan",
+            Refusal::Ends { .. } =>
+                "a duct's first end is below its second, and both are pits of the plan",
             Refusal::Length { .. } => "a duct is 1 to 1000000 centimetres long",
             Refusal::Bore { .. } => "a duct's bore is 10 to 300 millimetres",
             Refusal::Repeat { .. } => "no two ducts join the same two pits",
