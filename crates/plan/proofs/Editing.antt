@@ -19,7 +19,7 @@ use Rattle.plan.specs.Edits.{Verdict, asks, andThen, checkEnds, checkDuct, che
 use Rattle.plan.specs.Plans.{PlanSpec}
 use Rattle.plan.proofs.Keeping.{keep-push}
 
-refused-not-accepted : {X : Type 0} {e : Refusal} {x : X} {P : Type 0} → Err e ≡ Ok x → P
+pub refused-not-accepted : {X : Type 0} {e : Refusal} {x : X} {P : Type 0} → Err e ≡ Ok x → P
 refused-not-accepted h = absurd (let z : _≡_ {A = ℕ} 0 1 = cc in omega arith)
 
 -- three questions that all got a yes

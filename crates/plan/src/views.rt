@@ -7,7 +7,7 @@ use crate::limits::MAX_DUCTS;
 use crate::plans::Plan;
 
 // A place of the array that holds no duct of the plan.
-const UNUSED: Duct = Duct {
+pub const UNUSED: Duct = Duct {
     first: 0,
     second: 0,
     length: 0,

@@ -1,0 +1,146 @@
+-- The questions on a file's ducts, one duct on.
+use mathlib.Core.Path.{_≡_, refl, sym, ap, _∙_}
+use mathlib.Core.List.{List, [], _∷_, _++_}
+use mathlib.Core.Bool.{Bool, true, false, cond, _&&_}
+use Prim.Native.Nat.{ℕ, _+_, _-_, _*_, _<_, _≤_}
+use native.Mathlib.Omega.{arith}
+use lib.Dec.{eqb, leb}
+use lib.ListN.{length, take, drop, getD, set}
+use Rattle.std.specs.Options.{isSome}
+use Rattle.std.specs.declared.result.Result.{Result}
+use Rattle.std.specs.declared.result.Result.the-variants.{Ok, Err}
+use Rattle.std.proofs.shelf.Counted.{length-map-counting}
+use Rattle.std.proofs.shelf.Lists.{length-take-le, length-set, take-more-set}
+use Rattle.std.proofs.shelf.Tests.{and-parts, leb-true, eqb-true}
+use Rattle.plan.specs.Ducts.{joins, between, ductsKeep}
+use Rattle.plan.specs.Edits.{Verdict, asks, andThen, checkDuct, checkRepeat}
+use Rattle.plan.specs.Plans.{PlanSpec}
+use Rattle.plan.specs.declared.ducts.Duct.{Duct}
+use Rattle.plan.specs.declared.refusals.Refusal.{Refusal}
+use Rattle.plan.specs.declared.refusals.Refusal.the-variants.{Repeat}
+use Rattle.plan.proofs.Finding.{between-here, between-none}
+use Rattle.plan.proofs.Editing.{refused-not-accepted, laid-sound}
+use Rattle.planfile.specs.Format.{fileSize, ductAt, ductsIn}
+use Rattle.planfile.specs.Loading.{checkSizes, admit, asPlan, decode}
+use Rattle.planfile.specs.Words.{two}
+
+-- a file whose sizes got a yes
+pub record Sized (bs : List ℕ) : Type 0 where
+  pub front : 4 ≤ length bs
+  pub somePits : 1 ≤ two bs 0
+  pub fewPits : two bs 0 ≤ 512
+  pub fewDucts : two bs 2 ≤ 1024
+  pub exact : length bs ≡ fileSize (two bs 2)
+
+four-yes :
+    (a b c d : Bool) (e f g h : Refusal) → Ok tt ≡ andThen (asks a e) (andThen (asks b f) (andThen (asks c g) (asks d h)))
+    → (a ≡ true) × (b ≡ true) × (c ≡ true) × (d ≡ true)
+four-yes true true true true e f g h w = (refl, refl, refl, refl)
+four-yes true true true false e f g h w = refused-not-accepted (sym w)
+four-yes true true false d e f g h w = refused-not-accepted (sym w)
+four-yes true false c d e f g h w = refused-not-accepted (sym w)
+four-yes false b c d e f g h w = refused-not-accepted (sym w)
+
+pub sized : (bs : List ℕ) → Ok tt ≡ checkSizes bs → Sized bs
+sized bs h =
+    let y = four-yes (leb 4 (length bs)) (leb 1 (two bs 0) && leb (two bs 0) 512) (leb (two bs 2) 1024) (eqb (length bs) (fileSize (two bs 2))) _ _ _ _ h in
+    let p = and-parts (leb 1 (two bs 0)) (leb (two bs 0) 512) (y .1) in
+    record {
+      front = leb-true 4 (length bs) (y .0);
+      somePits = leb-true 1 (two bs 0) (p .0);
+      fewPits = leb-true (two bs 0) 512 (p .1);
+      fewDucts = leb-true (two bs 2) 1024 (y .2);
+      exact = eqb-true (length bs) (fileSize (two bs 2)) (y .3);
+    }
+
+-- the ducts to come, after the first `count` of ds, give the answer of the whole file
+pub record Admitting (bs : List ℕ) (pits count : ℕ) (ds left : List Duct) : Type 0 where
+  pub answer : asPlan pits (admit pits (take count ds) left) ≡ decode bs
+  pub few : count + length left ≤ 1024
+  pub places : length ds ≡ 1024
+  pub keeps : ductsKeep pits (take count ds) ≡ true
+
+pub admit-begins :
+    (bs : List ℕ) (pits n : ℕ) (ds left : List Duct) → Ok tt ≡ checkSizes bs → pits ≡ two bs 0 → n ≡ two bs 2 → left ≡ ductsIn bs n → length ds ≡ 1024
+    → Admitting bs pits 0 ds left
+unfolding ductsKeep
+admit-begins bs pits n ds left ok p m l long =
+    let s = sized bs ok in
+    let few = s .fewDucts in
+    let whole = ap length l ∙ length-map-counting (ductAt _ _) 0 n in
+    record {
+      answer =
+          ap (λ xs. asPlan pits (admit pits [] xs)) (l ∙ ap (ductsIn bs) m)
+          ∙ ap (λ k. asPlan k (admit k [] (ductsIn bs (two bs 2)))) p
+          ∙ ap (λ v. andThen v (asPlan (two bs 0) (admit (two bs 0) [] (ductsIn bs (two bs 2))))) ok;
+      few = omega arith;
+      places = long;
+      keeps = refl;
+    }
+
+module _ {bs : List ℕ} {pits count : ℕ} {ds left : List Duct} (inv : Admitting bs pits count ds left) where
+  room : count ≤ length ds
+  room = let few = inv .few in let places = inv .places in omega arith
+
+  long : length (take count ds) ≡ count
+  long = length-take-le count ds room
+
+  -- no duct is left
+  pub admit-ends : left ≡ [] → Ok (record { pits = pits; ducts = take count ds }) ≡ decode bs
+  admit-ends e = sym (ap (λ xs. asPlan pits (admit pits (take count ds) xs)) e) ∙ inv .answer
+
+  -- d is the next duct
+  module _ {d : Duct} {rest : List Duct} (next : left ≡ d ∷ rest) where
+    after : Verdict → Verdict → Result PlanSpec Refusal
+    after v w = asPlan pits (andThen v (andThen w (admit pits (take count ds ++ d ∷ []) rest)))
+
+    -- the two questions on d, as the code asks them
+    asked : after (checkDuct pits count d) (checkRepeat (take count ds) count d) ≡ decode bs
+    unfolding after
+    asked =
+        sym (ap (λ k. after (checkDuct pits k d) (checkRepeat (take count ds) k d)) long)
+        ∙ sym (ap (λ xs. asPlan pits (admit pits (take count ds) xs)) next)
+        ∙ inv .answer
+
+    pub admit-refuses : (e : Refusal) → Err e ≡ checkDuct pits count d → Err e ≡ decode bs
+    unfolding after
+    admit-refuses e bad = ap (λ v. after v (checkRepeat (take count ds) count d)) bad ∙ asked
+
+    pub admit-repeats : Ok tt ≡ checkDuct pits count d → isSome (between (take count ds) (d .first) (d .second)) ≡ true → Err (Repeat count) ≡ decode bs
+    unfolding after
+    admit-repeats ok old =
+        sym (ap (λ t. after (Ok tt) (cond t (Err (Repeat count)) (Ok tt))) old)
+        ∙ ap (λ v. after v (checkRepeat (take count ds) count d)) ok
+        ∙ asked
+
+    pub admit-more :
+        Ok tt ≡ checkDuct pits count d → isSome (between (take count ds) (d .first) (d .second)) ≡ false → Admitting bs pits (count + 1) (set ds count d) rest
+    unfolding after
+    admit-more ok new =
+        let few = inv .few in
+        let places = inv .places in
+        let one = ap length next in
+        let here : count < length ds = omega arith in
+        record {
+          answer =
+              ap (λ xs. asPlan pits (admit pits xs rest)) (take-more-set ds count d here)
+              ∙ sym (ap (λ t. after (Ok tt) (cond t (Err (Repeat count)) (Ok tt))) new)
+              ∙ ap (λ v. after v (checkRepeat (take count ds) count d)) ok
+              ∙ asked;
+          few = omega arith;
+          places = length-set ds count d ∙ places;
+          keeps = laid-sound pits count count ds d here (inv .keeps) ok new;
+        }
+
+-- the earlier ducts, as the slice of them is cut, and whether one joins the pits a and b
+pub no-repeat : (ds : List Duct) (n a b i : ℕ) → length (take (n - 0) ds) ≤ i
+    → between (drop i (take (n - 0) ds)) a b ≡ between (take (n - 0) ds) a b → isSome (between (take n ds) a b) ≡ false
+no-repeat ds n a b i all inv =
+    let cut : n - 0 ≡ n = omega arith in
+    ap (λ k. isSome (between (take k ds) a b)) (sym cut) ∙ ap isSome (sym inv ∙ between-none (take (n - 0) ds) a b i all)
+
+pub some-repeat : (ds : List Duct) (n a b i : ℕ) (z : Duct) → i < length (take (n - 0) ds) → joins (getD (take (n - 0) ds) i z) a b ≡ true
+    → between (drop i (take (n - 0) ds)) a b ≡ between (take (n - 0) ds) a b → isSome (between (take n ds) a b) ≡ true
+some-repeat ds n a b i z here same inv =
+    let cut : n - 0 ≡ n = omega arith in
+    ap (λ k. isSome (between (take k ds) a b)) (sym cut) ∙ ap isSome (sym inv ∙ between-here (take (n - 0) ds) a b i z here same)

@@ -1,0 +1,3 @@
+pub mod Placed
+pub mod Stepping
+pub mod Admitting

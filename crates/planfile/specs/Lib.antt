@@ -1,0 +1,5 @@
+pub mod Words
+pub mod Format
+pub mod Reading
+pub mod Loading
+pub mod Saving

@@ -1,0 +1,67 @@
+ghost use mathlib.Core.Path.{_≡_};
+ghost use Rattle.plan.specs.Plans.{planOf, planned};
+ghost use Rattle.planfile.specs.Loading.{checkSizes, decode, loadOn};
+use crate::steps;
+use crate::words;
+use plan::ducts::Duct;
+use plan::limits::MAX_DUCTS;
+use plan::limits::MAX_PITS;
+use plan::plans::Plan;
+use plan::refusals::Refusal;
+
+// Questions 1 to 4 on the file as a whole: 4 bytes, the pit count, the duct count, the exact size.
+fn check_sizes(bytes: &[u8]) -> Result<(), Refusal>
+    ensures { λ r. ⌜ r ≡ checkSizes (now (bytes .entry)) ⌝ }
+{
+    if bytes.len() < 4 {
+        return Err(Refusal::ShortFile);
+    }
+    let pits = words::get_two(bytes, 0);
+    if pits < 1 || pits > MAX_PITS {
+        return Err(Refusal::PitCount);
+    }
+    let count = words::get_two(bytes, 2) as usize;
+    if count > MAX_DUCTS {
+        return Err(Refusal::DuctCount);
+    }
+    if bytes.len() != 4 + 10 * count {
+        return Err(Refusal::FileSize);
+    }
+    Ok(())
+}
+
+// The plan of a file, or the first rule that the file breaks.
+pub fn read(bytes: &[u8]) -> Result<Plan, Refusal>
+    ensures { λ r. ⌜ planned r ≡ decode (now (bytes .entry)) ⌝ }
+{
+    check_sizes(bytes)?;
+    let pits = words::get_two(bytes, 0);
+    let mut reader = steps::open(bytes, words::get_two(bytes, 2) as usize);
+    let mut ducts = [plan::views::UNUSED; MAX_DUCTS];
+    let mut count: u16 = 0;
+    let mut repeated = false;
+    'ducts: while let Some(duct) = reader.next() {
+        duct.check(pits, count)?;
+        for earlier in &ducts[0..count as usize] {
+            if earlier.joins(duct.first, duct.second) {
+                repeated = true;
+                break 'ducts;
+            }
+        }
+        ducts[count as usize] = duct;
+        count += 1;
+    }
+    if repeated {
+        return Err(Refusal::Repeat { place: count });
+    }
+    Ok(Plan { pits, count, ducts })
+}
+
+// Loads a file: its plan becomes the plan that stands. A refused file leaves the plan that stood.
+pub fn load(plan: &mut Plan, bytes: &[u8]) -> Result<(), Refusal>
+    ensures answer { λ r. ⌜ r ≡ loadOn (now (bytes .entry)) (planOf (now (plan .entry))) .answer ⌝ }
+    ensures stands { λ _. ⌜ planOf (now (plan .exit)) ≡ loadOn (now (bytes .entry)) (planOf (now (plan .entry))) .plan ⌝ }
+{
+    *plan = read(bytes)?;
+    Ok(())
+}
