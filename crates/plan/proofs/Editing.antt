@@ -10,10 +10,10 @@ use Rattle.std.specs.Options.{isSome}
 use Rattle.std.specs.declared.result.Result.{Result}
 use Rattle.std.specs.declared.result.Result.the-variants.{Ok, Err}
 use Rattle.std.proofs.shelf.Lists.{take-more, take-more-set, take-all, append-nil, length-set}
-use Rattle.std.proofs.shelf.Tests.{lt-ltb}
+use Rattle.std.proofs.shelf.Tests.{and-parts, lt-ltb}
 use Rattle.plan.specs.declared.ducts.Duct.{Duct}
 use Rattle.plan.specs.declared.refusals.Refusal.{Refusal}
-use Rattle.plan.specs.declared.refusals.Refusal.the-variants.{DuctCount, Repeat, NoDuct}
+use Rattle.plan.specs.declared.refusals.Refusal.the-variants.{DuctCount, Ends, Length, Bore, Repeat, NoDuct}
 use Rattle.plan.specs.Ducts.{joins, between, others, endsKeep, lengthKeeps, boreKeeps, ductKeeps, ductsKeep}
 use Rattle.plan.specs.Edits.{Verdict, asks, andThen, checkEnds, checkDuct, checkRepeat, layOn, liftOff}
 use Rattle.plan.specs.Plans.{PlanSpec}
@@ -31,6 +31,14 @@ all-yes false y z e f g h = refused-not-accepted (sym h)
 
 pub checked-keeps : (pits place : ℕ) (d : Duct) → Ok tt ≡ checkDuct pits place d → ductKeeps pits d ≡ true
 checked-keeps pits place d h = all-yes (endsKeep pits (d .first) (d .second)) (lengthKeeps (d .length)) (boreKeeps (d .bore)) _ _ _ h
+
+pub keeps-checked : (pits place : ℕ) (d : Duct) → ductKeeps pits d ≡ true → checkDuct pits place d ≡ Ok tt
+keeps-checked pits place d h =
+    let p = and-parts (endsKeep pits (d .first) (d .second)) (lengthKeeps (d .length) && boreKeeps (d .bore)) h in
+    let q = and-parts (lengthKeeps (d .length)) (boreKeeps (d .bore)) (p .1) in
+    ap (λ t. andThen (asks t (Ends place)) (andThen (asks (lengthKeeps (d .length)) (Length place)) (asks (boreKeeps (d .bore)) (Bore place)))) (p .0)
+    ∙ ap (λ t. andThen (asks t (Length place)) (asks (boreKeeps (d .bore)) (Bore place))) (q .0)
+    ∙ ap (λ t. asks t (Bore place)) (q .1)
 
 -- a checked duct that is no repeat, written after the n ducts that stand
 pub laid-sound :
