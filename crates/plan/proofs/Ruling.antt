@@ -1,22 +1,22 @@
--- The test that a plan's type holds says the rules.
+-- The test that a plan's type holds says the rules, and no more than the rules.
 use mathlib.Core.Path.{_≡_, refl, sym, ap, _∙_}
 use mathlib.Core.List.{List, [], _∷_}
-use mathlib.Core.Bool.{Bool, true, false, _||_}
-use mathlib.Core.Logic.{_⊎_, inl, inr}
+use mathlib.Core.Bool.{Bool, true, false, _&&_, _||_}
+use mathlib.Core.Logic.{_⊎_, inl, inr, ⊎-elim}
 use Prim.Native.Nat.{ℕ, zero, suc, _<_, _≤_}
 use native.Mathlib.Omega.{arith}
 use lib.Dec.{eqb, leb, ltb}
 use lib.ListN.{length, getD, take}
 use Rattle.std.specs.Options.{isSome}
 use Rattle.std.proofs.shelf.Lists.{length-take-le}
-use Rattle.std.proofs.shelf.Tests.{and-parts, ltb-true, leb-true, or-parts, both-ways, false≢true}
+use Rattle.std.proofs.shelf.Tests.{and-parts, and-from, ltb-true, leb-true, eqb-true, lt-ltb, le-leb, or-parts, or-from, or-cases, both-ways, cases-bool}
 use Rattle.std.proofs.shelf.Ways.{tells}
 use Rattle.plan.specs.declared.ducts.Duct.{Duct}
 use Rattle.plan.specs.declared.plans.Plan.{Plan}
 use Rattle.plan.specs.Ducts.{joins, between, endsKeep, lengthKeeps, boreKeeps, ductKeeps, ductsKeep}
-use Rattle.plan.specs.Plans.{planOf}
+use Rattle.plan.specs.Plans.{PlanSpec, planOf}
 use Rattle.plan.specs.Rules.{DuctRules, SamePits, Rules}
-use Rattle.plan.proofs.Keeping.{keep-front, between-front}
+use Rattle.plan.proofs.Keeping.{keep-front, keep-from, between-front}
 
 pub own-rules : (pits : ℕ) (d : Duct) → ductKeeps pits d ≡ true → DuctRules pits d
 own-rules pits d h =
@@ -71,3 +71,45 @@ plan-rules p =
       each = each-rules (p .pits) (planOf p .ducts) (p .sound);
       apart = all-apart (p .pits) (planOf p .ducts) (p .sound);
     }
+
+rules-own : (pits : ℕ) (d : Duct) → DuctRules pits d → ductKeeps pits d ≡ true
+rules-own pits d r =
+    and-from (endsKeep pits (d .first) (d .second)) _
+    (and-from (ltb (d .first) (d .second)) _ (lt-ltb (d .first) (d .second) (r .rising)) (lt-ltb (d .second) pits (r .onPlan)))
+    (and-from (lengthKeeps (d .length)) _
+    (and-from (leb 1 (d .length)) _ (le-leb 1 (d .length) (r .some)) (le-leb (d .length) 1000000 (r .short)))
+    (and-from (leb 10 (d .bore)) _ (le-leb 10 (d .bore) (r .wide)) (le-leb (d .bore) 300 (r .narrow))))
+
+joins-same : (d e : Duct) → joins e (d .first) (d .second) ≡ true → SamePits d e
+unfolding joins
+joins-same d e h =
+    ⊎-elim
+    (λ s. let p = and-parts (eqb (e .first) (d .first)) _ s in inl (sym (eqb-true (e .first) (d .first) (p .0)), sym (eqb-true (e .second) (d .second) (p .1))))
+    (λ s. let p = and-parts (eqb (e .first) (d .second)) _ s in inr (sym (eqb-true (e .second) (d .first) (p .1)), sym (eqb-true (e .first) (d .second) (p .0))))
+    (or-cases (eqb (e .first) (d .first) && eqb (e .second) (d .second)) _ h)
+
+-- a duct that joins the pits of none of the others
+among-none : (ds : List Duct) (d : Duct) → ((j : ℕ) (z : Duct) → j < length ds → SamePits d (getD ds j z) → ⊥) → isSome (between ds (d .first) (d .second)) ≡ false
+unfolding between
+among-none [] d apart = refl
+among-none (e ∷ es) d apart =
+    let other : joins e (d .first) (d .second) ≡ false =
+    ⊎-elim (λ t. absurd (apart 0 d (omega arith) (joins-same d e t))) (λ f. f) (cases-bool (joins e (d .first) (d .second))) in
+    between-front e es (d .first) (d .second)
+    ∙ or-from (joins e (d .first) (d .second)) (isSome (between es (d .first) (d .second))) other (among-none es d (λ j z h s. apart (suc j) z (omega arith) s))
+
+rules-list :
+    (pits : ℕ) (ds : List Duct) → ((i : ℕ) (z : Duct) → i < length ds → DuctRules pits (getD ds i z))
+    → ((i j : ℕ) (z : Duct) → i < j → j < length ds → SamePits (getD ds i z) (getD ds j z) → ⊥) → ductsKeep pits ds ≡ true
+unfolding ductsKeep
+rules-list pits [] each apart = refl
+rules-list pits (d ∷ ds) each apart =
+    keep-from pits d ds
+    (record {
+      own = rules-own pits d (each 0 d (omega arith));
+      new = among-none ds d (λ j z h s. apart 0 (suc j) z (omega arith) (omega arith) s);
+      rest = rules-list pits ds (λ i z h. each (suc i) z (omega arith)) (λ i j z h k s. apart (suc i) (suc j) z (omega arith) (omega arith) s);
+    })
+
+pub rules-keep : (p : PlanSpec) → Rules p → ductsKeep (p .pits) (p .ducts) ≡ true
+rules-keep p r = rules-list (p .pits) (p .ducts) (r .each) (r .apart)

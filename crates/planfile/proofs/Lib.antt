@@ -4,3 +4,4 @@ pub mod Admitting
 pub mod Arrays
 pub mod Trip
 pub mod Saved
+pub mod Exact

@@ -3,3 +3,4 @@ pub mod Format
 pub mod Reading
 pub mod Loading
 pub mod Saving
+pub mod Files

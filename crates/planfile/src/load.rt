@@ -1,5 +1,6 @@
 ghost use mathlib.Core.Path.{_≡_};
 ghost use Rattle.plan.specs.Plans.{planOf, planned};
+ghost use Rattle.planfile.specs.Files.{Judged};
 ghost use Rattle.planfile.specs.Loading.{checkSizes, decode, loadOn};
 use crate::steps;
 use crate::words;
@@ -30,8 +31,8 @@ fn check_sizes(bytes: &[u8]) -> Result<(), Refusal>
     Ok(())
 }
 
-// The plan of a file, or the first rule that the file breaks.
-pub fn read(bytes: &[u8]) -> Result<Plan, Refusal>
+// The plan of a file, or the first rule that the file breaks: questions 1 to 4, then 5 to 8 on each duct in turn.
+fn parse(bytes: &[u8]) -> Result<Plan, Refusal>
     ensures { λ r. ⌜ planned r ≡ decode (now (bytes .entry)) ⌝ }
 {
     check_sizes(bytes)?;
@@ -55,6 +56,15 @@ pub fn read(bytes: &[u8]) -> Result<Plan, Refusal>
         return Err(Refusal::Repeat { place: count });
     }
     Ok(Plan { pits, count, ducts })
+}
+
+// The same, with what it says of the file alone: an accepted file is the file of the plan that it gives, byte by byte,
+// and a refused one is no plan's file.
+pub fn read(bytes: &[u8]) -> Result<Plan, Refusal>
+    ensures answer { λ r. ⌜ planned r ≡ decode (now (bytes .entry)) ⌝ }
+    ensures exact { λ r. ⌜ Judged (planned r) (now (bytes .entry)) ⌝ }
+{
+    parse(bytes)
 }
 
 // Loads a file: its plan becomes the plan that stands. A refused file leaves the plan that stood.

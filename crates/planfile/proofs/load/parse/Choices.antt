@@ -4,7 +4,7 @@ use lib.ListN.{length, take, drop}
 use Rattle.plan.specs.Ducts.{between}
 use Rattle.planfile.specs.Reading.{toCome}
 use Rattle.planfile.proofs.Admitting.{Admitting}
-use Rattle.planfile.proofs.load.read.Given as given
+use Rattle.planfile.proofs.load.parse.Given as given
 
 -- none of the earlier ducts so far joins the same two pits
 abbrev pub Inv-loop-earlier : given.InvT-loop-earlier
