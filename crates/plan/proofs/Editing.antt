@@ -47,20 +47,13 @@ pub laid-sound :
 laid-sound pits n place ds d h keep own new =
     ap (ductsKeep pits) (take-more-set ds n d h) ∙ keep-push pits (take n ds) d keep (checked-keeps pits place d own) new
 
-pub lay-accepts :
-    (pits n : ℕ) (ds : List Duct) (d : Duct) → n < length ds → length (take n ds) < 1024 → Ok tt ≡ checkDuct pits 0 d
-    → isSome (between (take n ds) (d .first) (d .second)) ≡ false
-    → Ok (record { pits = pits; ducts = take (n + 1) (set ds n d) }) ≡ layOn (record { pits = pits; ducts = take n ds }) d
-lay-accepts pits n ds d h room own new =
-    let made : List Duct → PlanSpec = λ xs. record { pits = pits; ducts = xs } in
-    let laid : Result PlanSpec Refusal = Ok (made (take n ds ++ d ∷ [])) in
-    let counted : Bool → Result PlanSpec Refusal = λ t. andThen (asks t DuctCount) laid in
-    let repeated : Verdict → Result PlanSpec Refusal = λ v. andThen v (counted (ltb (length (take n ds)) 1024)) in
-    let checked : Verdict → Result PlanSpec Refusal = λ v. andThen v (repeated (checkRepeat (take n ds) 0 d)) in
-    ap (λ xs. Ok (made xs)) (take-more-set ds n d h)
-    ∙ sym (ap counted (lt-ltb (length (take n ds)) 1024 room))
-    ∙ sym (ap (λ t. repeated (cond t (Err (Repeat 0)) (Ok tt))) new)
-    ∙ ap checked own
+refused-if : (t : Bool) (e : Refusal) (v : Verdict) → v ≡ cond t (Err e) (Ok tt) → v ≡ Ok tt → t ≡ false
+refused-if true e v h k = refused-not-accepted (sym h ∙ k)
+refused-if false e v h k = refl
+
+-- no duct of ds joins the same two pits as d
+pub not-taken : (ds : List Duct) (place : ℕ) (d : Duct) → checkRepeat ds place d ≡ Ok tt → isSome (between ds (d .first) (d .second)) ≡ false
+not-taken ds place d h = refused-if (isSome (between ds (d .first) (d .second))) (Repeat place) (checkRepeat ds place d) refl h
 
 -- the first n places of xs hold those of the first i items that do not join a and b
 pub record Lifting (n : ℕ) (xs : List Duct) (i : ℕ) (items : List Duct) (a b : ℕ) : Type 0 where
@@ -108,12 +101,3 @@ module _ {items : List Duct} {a b i n : ℕ} {xs : List Duct} (z : Duct) (within
 -- after the last item
 pub lifted : {n i a b : ℕ} {xs items ds : List Duct} → Lifting n xs i items a b → length items ≤ i → items ≡ ds → take n xs ≡ others ds a b
 lifted {n} {i} {a} {b} {xs} {items} {ds} inv h e = inv .kept ∙ ap (λ ys. others ys a b) (take-all i items h ∙ e)
-
-pub lift-accepts :
-    (pits : ℕ) (ds xs : List Duct) (a b : ℕ) → xs ≡ others ds a b → Ok tt ≡ checkEnds pits 0 a b → isSome (between ds a b) ≡ true
-    → Ok (record { pits = pits; ducts = xs }) ≡ liftOff (record { pits = pits; ducts = ds }) a b
-lift-accepts pits ds xs a b e ends there =
-    let made : List Duct → PlanSpec = λ ys. record { pits = pits; ducts = ys } in
-    let found : Bool → Result PlanSpec Refusal = λ t. andThen (asks t NoDuct) (Ok (made (others ds a b))) in
-    let checked : Verdict → Result PlanSpec Refusal = λ v. andThen v (found (isSome (between ds a b))) in
-    ap (λ ys. Ok (made ys)) e ∙ sym (ap found there) ∙ ap checked ends

@@ -14,7 +14,6 @@ use Rattle.plan.specs.declared.ducts.Duct.{Duct}
 use Rattle.plan.specs.Ducts.{joins, between, others, ductKeeps, ductsKeep}
 
 pub joins-sym : (d e : Duct) → joins d (e .first) (e .second) ≡ joins e (d .first) (d .second)
-unfolding joins
 joins-sym d e = grind (arith, tells)
 
 -- whether a duct stands between two pits, with one more duct in front, and at the end

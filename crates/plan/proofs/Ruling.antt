@@ -41,7 +41,6 @@ each-rules pits (d ∷ ds) h zero z lt = own-rules pits d (keep-front pits d ds 
 each-rules pits (d ∷ ds) h (suc i) z lt = each-rules pits ds (keep-front pits d ds h .rest) i z (omega arith)
 
 same-joins : (d e : Duct) → SamePits d e → joins e (d .first) (d .second) ≡ true
-unfolding joins
 same-joins d e (inl s) = let p = s .0 in let q = s .1 in grind (arith, tells)
 same-joins d e (inr s) = let p = s .0 in let q = s .1 in grind (arith, tells)
 
@@ -81,7 +80,6 @@ rules-own pits d r =
     (and-from (leb 10 (d .bore)) _ (le-leb 10 (d .bore) (r .wide)) (le-leb (d .bore) 300 (r .narrow))))
 
 joins-same : (d e : Duct) → joins e (d .first) (d .second) ≡ true → SamePits d e
-unfolding joins
 joins-same d e h =
     ⊎-elim
     (λ s. let p = and-parts (eqb (e .first) (d .first)) _ s in inl (sym (eqb-true (e .first) (d .first) (p .0)), sym (eqb-true (e .second) (d .second) (p .1))))

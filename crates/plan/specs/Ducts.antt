@@ -23,18 +23,16 @@ abbrev pub ductKeeps : ℕ → Duct → Bool
 ductKeeps pits d = endsKeep pits (d .first) (d .second) && (lengthKeeps (d .length) && boreKeeps (d .bore))
 
 -- d joins the pits a and b, either way round
-unfoldable pub joins : Duct → ℕ → ℕ → Bool
+abbrev pub joins : Duct → ℕ → ℕ → Bool
 joins d a b = (eqb (d .first) a && eqb (d .second) b) || (eqb (d .first) b && eqb (d .second) a)
 
 -- the duct between the pits a and b, if there is one
 unfoldable pub between : List Duct → ℕ → ℕ → Option Duct
-unfolding joins
 between [] a b = None
 between (d ∷ ds) a b = cond (joins d a b) (Some d) (between ds a b)
 
 -- the ducts but the one between a and b, in their order
 unfoldable pub others : List Duct → ℕ → ℕ → List Duct
-unfolding joins
 others [] a b = []
 others (d ∷ ds) a b = cond (joins d a b) (others ds a b) (d ∷ others ds a b)
 

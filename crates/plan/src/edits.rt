@@ -1,5 +1,10 @@
+ghost use mathlib.Core.List.{[], _∷_, _++_};
 ghost use mathlib.Core.Path.{_≡_};
-ghost use Rattle.plan.specs.Edits.{layOn, liftOff};
+ghost use Prim.Native.Nat.{_<_};
+ghost use lib.ListN.{length};
+ghost use Rattle.std.specs.declared.result.Result.the-variants.{Ok};
+ghost use Rattle.plan.specs.Ducts.{others};
+ghost use Rattle.plan.specs.Edits.{checkDuct, checkRepeat, layOn, liftOff};
 ghost use Rattle.plan.specs.Plans.{planOf, planned};
 use crate::checks;
 use crate::ducts::Duct;
@@ -8,25 +13,16 @@ use crate::plans::Plan;
 use crate::refusals::Refusal;
 
 impl Plan {
-    // The plan with a duct laid last. The duct array is copied and the copy changed, so a refused lay leaves this plan.
+    // The plan with a duct laid last. The change is made in a copy, so a refused lay leaves this plan.
     pub fn lay(&self, duct: Duct) -> Result<Plan, Refusal>
         ensures { λ r. ⌜ planned r ≡ layOn (planOf (now (self .entry))) duct ⌝ }
     {
         duct.check(self.pits, 0)?;
-        if self.duct_between(duct.first, duct.second).is_some() {
-            return Err(Refusal::Repeat { place: 0 });
-        }
-        let count = self.count as usize;
-        if count >= MAX_DUCTS {
+        self.check_repeat(&duct)?;
+        if self.ducts().len() >= MAX_DUCTS {
             return Err(Refusal::DuctCount);
         }
-        let mut ducts = self.ducts;
-        ducts[count] = duct;
-        Ok(Plan {
-            pits: self.pits,
-            count: self.count + 1,
-            ducts,
-        })
+        Ok(self.with_last(duct))
     }
 
     // The plan without the duct between two ends; the others keep their order. A refused lift leaves this plan too.
@@ -37,18 +33,52 @@ impl Plan {
         if self.duct_between(first, second).is_none() {
             return Err(Refusal::NoDuct);
         }
+        Ok(self.without(first, second))
+    }
+
+    // Question 8 on a duct that is to be laid: does no duct of the plan join the same two pits?
+    fn check_repeat(&self, duct: &Duct) -> Result<(), Refusal>
+        ensures { λ r. ⌜ r ≡ checkRepeat (planOf (now (self .entry)) .ducts) 0 (now (duct .entry)) ⌝ }
+    {
+        if self.duct_between(duct.first, duct.second).is_some() {
+            Err(Refusal::Repeat { place: 0 })
+        } else {
+            Ok(())
+        }
+    }
+
+    // The plan with a checked duct last, in a copy of the duct array.
+    fn with_last(&self, duct: Duct) -> Plan
+        requires own { ⌜ checkDuct (planOf (now self) .pits) 0 duct ≡ Ok tt ⌝ }
+        requires new { ⌜ checkRepeat (planOf (now self) .ducts) 0 duct ≡ Ok tt ⌝ }
+        requires room { ⌜ length (planOf (now self) .ducts) < 1024 ⌝ }
+        ensures { λ r. ⌜ planOf r ≡ record { pits = planOf (now (self .entry)) .pits; ducts = planOf (now (self .entry)) .ducts ++ duct ∷ [] } ⌝ }
+    {
+        let mut ducts = self.ducts;
+        ducts[self.count as usize] = duct;
+        Plan {
+            pits: self.pits,
+            count: self.count + 1,
+            ducts,
+        }
+    }
+
+    // The plan with the ducts that do not join two pits, in a copy of the duct array.
+    fn without(&self, a: u16, b: u16) -> Plan
+        ensures { λ r. ⌜ planOf r ≡ record { pits = planOf (now (self .entry)) .pits; ducts = others (planOf (now (self .entry)) .ducts) a b } ⌝ }
+    {
         let mut ducts = self.ducts;
         let mut left = 0;
         for duct in self.ducts() {
-            if !duct.joins(first, second) {
+            if !duct.joins(a, b) {
                 ducts[left] = *duct;
                 left += 1;
             }
         }
-        Ok(Plan {
+        Plan {
             pits: self.pits,
             count: left as u16,
             ducts,
-        })
+        }
     }
 }

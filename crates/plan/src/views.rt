@@ -45,11 +45,18 @@ impl Plan {
     pub fn duct_between(&self, a: u16, b: u16) -> Option<Duct>
         ensures { λ r. ⌜ r ≡ between (planOf (now (self .entry)) .ducts) a b ⌝ }
     {
-        for duct in self.ducts() {
-            if duct.joins(a, b) {
-                return Some(*duct);
-            }
-        }
-        None
+        find(self.ducts(), a, b)
     }
+}
+
+// The first of the ducts that joins two pits.
+fn find(ducts: &[Duct], a: u16, b: u16) -> Option<Duct>
+    ensures { λ r. ⌜ r ≡ between (now (ducts .entry)) a b ⌝ }
+{
+    for duct in ducts {
+        if duct.joins(a, b) {
+            return Some(*duct);
+        }
+    }
+    None
 }

@@ -59,9 +59,11 @@ length-encode p =
 
 -- the four parts of a file, put one after the other
 pub file-put :
-    (o : List ℕ) (p : PlanSpec) (n : ℕ) → length (p .ducts) ≡ n → fileSize n ≤ length o
-    → over (over (over (over o 0 (twoOf (p .pits))) 2 (twoOf n)) 4 (joined endsOf (p .ducts))) (4 + 4 * n) (joined sizesOf (p .ducts)) ≡ encode p ++ drop (fileSize n) o
-file-put o p n e h =
+    (o : List ℕ) (p : PlanSpec) → fileSize (length (p .ducts)) ≤ length o
+    → over (over (over (over o 0 (twoOf (p .pits))) 2 (twoOf (length (p .ducts)))) 4 (joined endsOf (p .ducts))) (4 + 4 * length (p .ducts)) (joined sizesOf (p .ducts))
+    ≡ encode p ++ drop (fileSize (length (p .ducts))) o
+file-put o p h =
+    let n : ℕ = length (p .ducts) in
     let l1 = length-ends (p .ducts) in
     let l2 = length-sizes (p .ducts) in
     let a : List ℕ = twoOf (p .pits) ++ twoOf n in
@@ -73,4 +75,3 @@ file-put o p n e h =
     ∙ ap (λ y. over y (4 + 4 * n) c) (over-over o a b 0 4 (omega arith) refl)
     ∙ over-over o (a ++ b) c 0 (4 + 4 * n) (omega arith) (omega arith)
     ∙ ap (λ k. a ++ b ++ c ++ drop k o) lc
-    ∙ ap (λ k. twoOf (p .pits) ++ twoOf k ++ b ++ c ++ drop (fileSize n) o) (sym e)

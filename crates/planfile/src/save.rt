@@ -1,11 +1,12 @@
+ghost use mathlib.Core.List.{_++_};
 ghost use mathlib.Core.Path.{_≡_};
 ghost use Prim.Native.Nat.{_+_, _*_, _≤_};
-ghost use lib.ListN.{length, take};
+ghost use lib.ListN.{length, take, drop};
 ghost use Rattle.std.specs.Results.{Cases};
 ghost use Rattle.std.specs.declared.result.Result.the-variants.{Ok};
 ghost use Rattle.std.specs.shelf.Lists.{joined};
 ghost use Rattle.plan.specs.Plans.{planOf};
-ghost use Rattle.planfile.specs.Format.{encode, endsOf, sizesOf};
+ghost use Rattle.planfile.specs.Format.{fileSize, encode, endsOf, sizesOf};
 ghost use Rattle.planfile.specs.Loading.{decode};
 ghost use Rattle.planfile.specs.Saving.{saveIn, written};
 ghost use Rattle.planfile.specs.Words.{over};
@@ -39,6 +40,20 @@ fn put_sizes(ducts: &[Duct], buffer: &mut [u8], at: usize)
     }
 }
 
+// Writes the file of a plan that has pits at the front of a buffer that has room for it.
+fn put_file(plan: &Plan, buffer: &mut [u8])
+    requires some { ⌜ 1 ≤ planOf (now plan) .pits ⌝ }
+    requires room { ⌜ fileSize (length (planOf (now plan) .ducts)) ≤ length (now buffer) ⌝ }
+    ensures bytes { λ _. ⌜ now (buffer .exit) ≡ encode (planOf (now (plan .entry))) ++ drop (fileSize (length (planOf (now (plan .entry)) .ducts))) (now (buffer .entry)) ⌝ }
+    ensures back { λ _. ⌜ decode (take (fileSize (length (planOf (now (plan .entry)) .ducts))) (now (buffer .exit))) ≡ Ok (planOf (now (plan .entry))) ⌝ }
+{
+    let ducts = plan.ducts();
+    words::put_two(buffer, 0, plan.pits);
+    words::put_two(buffer, 2, plan.count);
+    put_ends(ducts, buffer, 4);
+    put_sizes(ducts, buffer, 4 + 4 * ducts.len());
+}
+
 // Writes the plan's file at the front of the buffer and gives its size. Later bytes stay, and so does every byte of a
 // buffer that is refused. Reading the file back gives the same plan.
 pub fn save(plan: &Plan, buffer: &mut [u8]) -> Result<usize, Refusal>
@@ -49,14 +64,10 @@ pub fn save(plan: &Plan, buffer: &mut [u8]) -> Result<usize, Refusal>
     if plan.pits < 1 {
         return Err(Refusal::BlankPlan);
     }
-    let count = plan.count as usize;
-    let size = 4 + 10 * count;
+    let size = 4 + 10 * plan.ducts().len();
     if buffer.len() < size {
         return Err(Refusal::ShortBuffer);
     }
-    words::put_two(buffer, 0, plan.pits);
-    words::put_two(buffer, 2, plan.count);
-    put_ends(plan.ducts(), buffer, 4);
-    put_sizes(plan.ducts(), buffer, 4 + 4 * count);
+    put_file(plan, buffer);
     Ok(size)
 }

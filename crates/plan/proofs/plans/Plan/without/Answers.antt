@@ -1,16 +1,16 @@
+use mathlib.Core.List.{List}
 use mathlib.Core.Path.{_≡_, refl, sym, ap, _∙_}
-use mathlib.Core.Bool.{true, false}
-use Prim.Native.Nat.{_<_, _≤_}
+use Prim.Native.Nat.{_<_}
 use native.Mathlib.Omega.{arith}
-use lib.ListN.{length, take}
-use Rattle.std.specs.Options.{isSome}
-use Rattle.plan.specs.Ducts.{between, others, ductsKeep}
-use Rattle.plan.specs.Plans.{planOf}
-use Rattle.plan.proofs.Ruling.{length-ducts}
+use lib.ListN.{length}
+use Rattle.plan.specs.Ducts.{others, ductsKeep}
+use Rattle.plan.specs.Plans.{PlanSpec, planOf}
+use Rattle.plan.specs.declared.ducts.Duct.{Duct}
+use Rattle.plan.proofs.Editing.{lift-skip, lift-keep, lifted}
 use Rattle.plan.proofs.Keeping.{keep-others}
-use Rattle.plan.proofs.Editing.{lift-skip, lift-keep, lifted, lift-accepts}
-use Rattle.plan.proofs.plans.Plan.lift.Needs as need
-use Rattle.plan.proofs.plans.Plan.lift.Needs.{then-not-joins, else-not-joins}
+use Rattle.plan.proofs.Ruling.{length-ducts}
+use Rattle.plan.proofs.plans.Plan.without.Needs as need
+use Rattle.plan.proofs.plans.Plan.without.Needs.{then-not-joins, else-not-joins}
 
 pub loop-duct-holds : need.loop-duct-holds
 unfolding others
@@ -38,11 +38,10 @@ ghost-result c =
     let most = c .loop-duct .kept .duct-index-end in
     let long : length (c .ducts-duct-items .result .now) ≡ p .count = ap length (c .ducts-duct-items .ensures .list) ∙ length-ducts p in
     let kept = lifted (c .loop-duct .inv) (c .loop-duct-test .left) (c .ducts-duct-items .ensures .list) in
-    let sound = ap (ductsKeep (p .pits)) kept ∙ keep-others (p .pits) (planOf p .ducts) (c .args .first) (c .args .second) (p .sound) in
+    let sound = ap (ductsKeep (p .pits)) kept ∙ keep-others (p .pits) (planOf p .ducts) (c .args .a) (c .args .b) (p .sound) in
     (p .small, (omega arith, (c .loop-duct .inv .places, (sound, tt))))
 
 pub returns : need.returns
 returns c =
-    let kept = lifted (c .loop-duct .inv) (c .loop-duct-test .left) (c .ducts-duct-items .ensures .list) in
-    let there = ap isSome (sym (c .duct-between .ensures)) ∙ c .if-is-none .ensures tt in
-    lift-accepts (c .args .self .now .pits) (planOf (c .args .self .now) .ducts) _ (c .args .first) (c .args .second) kept (c .in-Continue-check-ends .ensures tt) there
+    let made : List Duct → PlanSpec = λ ds. record { pits = c .args .self .now .pits; ducts = ds } in
+    ap made (lifted (c .loop-duct .inv) (c .loop-duct-test .left) (c .ducts-duct-items .ensures .list))

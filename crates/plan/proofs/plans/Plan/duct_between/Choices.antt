@@ -1,8 +1,0 @@
-use mathlib.Core.Path.{_≡_}
-use lib.ListN.{drop}
-use Rattle.plan.specs.Ducts.{between}
-use Rattle.plan.proofs.plans.Plan.duct_between.Given as given
-
--- the ducts to come give the answer
-abbrev pub Inv-loop-duct : given.InvT-loop-duct
-Inv-loop-duct l = between (drop (l .duct-index) (l .duct-items)) (l .a) (l .b) ≡ between (l .duct-items) (l .a) (l .b)
