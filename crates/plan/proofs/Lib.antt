@@ -2,3 +2,4 @@ pub mod Keeping
 pub mod Ruling
 pub mod Finding
 pub mod Editing
+pub mod Lifted

@@ -1,6 +1,7 @@
 -- What lay and lift make of a plan: each question in its order, and the first no refuses. Assumes nothing.
 use mathlib.Core.Bool.{Bool, true, false, cond}
 use mathlib.Core.List.{List, [], _∷_, _++_}
+use mathlib.Core.Path.{_≡_}
 use Prim.Native.Nat.{ℕ}
 use lib.Dec.{ltb}
 use lib.ListN.{length}
@@ -11,7 +12,7 @@ use Rattle.plan.specs.declared.ducts.Duct.{Duct}
 use Rattle.plan.specs.declared.refusals.Refusal.{Refusal}
 use Rattle.plan.specs.declared.refusals.Refusal.the-variants.{DuctCount, Ends, Length, Bore, Repeat, NoDuct}
 use Rattle.plan.specs.Limits.{mostDucts}
-use Rattle.plan.specs.Ducts.{endsKeep, lengthKeeps, boreKeeps, between, others}
+use Rattle.plan.specs.Ducts.{joins, endsKeep, lengthKeeps, boreKeeps, between, others}
 use Rattle.plan.specs.Plans.{PlanSpec}
 
 -- the answer yes, or a refusal
@@ -55,3 +56,12 @@ liftOff p a b =
     andThen (checkEnds (p .pits) 0 a b)
     (andThen (asks (isSome (between (p .ducts) a b)) NoDuct)
     (Ok (record { pits = p .pits; ducts = others (p .ducts) a b })))
+
+-- q is p without one duct, which joins the pits a and b; the others keep their order
+pub record WithoutOne (p : PlanSpec) (a b : ℕ) (q : PlanSpec) : Type 0 where
+  pub before : List Duct
+  pub duct : Duct
+  pub after : List Duct
+  pub was : p .ducts ≡ before ++ duct ∷ after
+  pub joined : joins duct a b ≡ true
+  pub left : q .ducts ≡ before ++ after

@@ -1,10 +1,13 @@
+ghost use mathlib.Core.Bool.{true};
 ghost use mathlib.Core.List.{[], _∷_, _++_};
 ghost use mathlib.Core.Path.{_≡_};
 ghost use Prim.Native.Nat.{_<_};
 ghost use lib.ListN.{length};
+ghost use Rattle.std.specs.Options.{isSome};
+ghost use Rattle.std.specs.Vec.{made};
 ghost use Rattle.std.specs.declared.result.Result.the-variants.{Ok};
-ghost use Rattle.plan.specs.Ducts.{others};
-ghost use Rattle.plan.specs.Edits.{checkDuct, checkRepeat, layOn, liftOff};
+ghost use Rattle.plan.specs.Ducts.{between, others};
+ghost use Rattle.plan.specs.Edits.{checkDuct, checkRepeat, layOn, liftOff, WithoutOne};
 ghost use Rattle.plan.specs.Plans.{planOf, planned};
 use crate::checks;
 use crate::ducts::Duct;
@@ -25,9 +28,11 @@ impl Plan {
         Ok(self.with_last(duct))
     }
 
-    // The plan without the duct between two ends; the others keep their order. A refused lift leaves this plan too.
+    // The plan without the duct between two ends: one duct is gone, and the others keep their order. A refused lift leaves
+    // this plan too.
     pub fn lift(&self, first: u16, second: u16) -> Result<Plan, Refusal>
-        ensures { λ r. ⌜ planned r ≡ liftOff (planOf (now (self .entry))) first second ⌝ }
+        ensures answer { λ r. ⌜ planned r ≡ liftOff (planOf (now (self .entry))) first second ⌝ }
+        ensures one { λ r. ⌜ made r (λ q. WithoutOne (planOf (now (self .entry))) first second (planOf q)) ⌝ }
     {
         checks::check_ends(self.pits, 0, first, second)?;
         if self.duct_between(first, second).is_none() {
@@ -63,9 +68,11 @@ impl Plan {
         }
     }
 
-    // The plan with the ducts that do not join two pits, in a copy of the duct array.
+    // The plan without the duct between two pits, in a copy of the duct array.
     fn without(&self, a: u16, b: u16) -> Plan
-        ensures { λ r. ⌜ planOf r ≡ record { pits = planOf (now (self .entry)) .pits; ducts = others (planOf (now (self .entry)) .ducts) a b } ⌝ }
+        requires { ⌜ isSome (between (planOf (now self) .ducts) a b) ≡ true ⌝ }
+        ensures plan { λ r. ⌜ planOf r ≡ record { pits = planOf (now (self .entry)) .pits; ducts = others (planOf (now (self .entry)) .ducts) a b } ⌝ }
+        ensures one { λ r. ⌜ WithoutOne (planOf (now (self .entry))) a b (planOf r) ⌝ }
     {
         let mut ducts = self.ducts;
         let mut left = 0;

@@ -8,6 +8,7 @@ use Rattle.plan.specs.Plans.{PlanSpec, planOf}
 use Rattle.plan.specs.declared.ducts.Duct.{Duct}
 use Rattle.plan.proofs.Editing.{lift-skip, lift-keep, lifted}
 use Rattle.plan.proofs.Keeping.{keep-others}
+use Rattle.plan.proofs.Lifted.{lifts-one}
 use Rattle.plan.proofs.Ruling.{length-ducts}
 use Rattle.plan.proofs.plans.Plan.without.Needs as need
 use Rattle.plan.proofs.plans.Plan.without.Needs.{then-not-joins, else-not-joins}
@@ -43,5 +44,7 @@ ghost-result c =
 
 pub returns : need.returns
 returns c =
-    let made : List Duct → PlanSpec = λ ds. record { pits = c .args .self .now .pits; ducts = ds } in
-    ap made (lifted (c .loop-duct .inv) (c .loop-duct-test .left) (c .ducts-duct-items .ensures .list))
+    let p = c .args .self .now in
+    let made : List Duct → PlanSpec = λ ds. record { pits = p .pits; ducts = ds } in
+    let kept = lifted (c .loop-duct .inv) (c .loop-duct-test .left) (c .ducts-duct-items .ensures .list) in
+    record { plan = ap made kept; one = lifts-one (planOf p) _ (c .args .a) (c .args .b) (p .sound) (c .pre) kept }
