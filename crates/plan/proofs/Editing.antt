@@ -4,56 +4,41 @@ use mathlib.Core.List.{List, [], _∷_, _++_}
 use mathlib.Core.Bool.{Bool, true, false, cond, not, _&&_}
 use Prim.Native.Nat.{ℕ, _+_, _<_, _≤_}
 use native.Mathlib.Omega.{arith}
-use lib.Dec.{ltb}
 use lib.ListN.{length, take, set, getD}
 use Rattle.std.specs.Options.{isSome}
-use Rattle.std.specs.declared.result.Result.{Result}
-use Rattle.std.specs.declared.result.Result.the-variants.{Ok, Err}
+use Rattle.std.specs.declared.result.Result.the-variants.{Ok}
 use Rattle.std.proofs.shelf.Lists.{take-more, take-more-set, take-all, append-nil, length-set}
-use Rattle.std.proofs.shelf.Tests.{and-parts, lt-ltb}
+use Rattle.std.proofs.shelf.Tests.{and-parts, and-from, not-true}
 use Rattle.plan.specs.declared.ducts.Duct.{Duct}
-use Rattle.plan.specs.declared.refusals.Refusal.{Refusal}
-use Rattle.plan.specs.declared.refusals.Refusal.the-variants.{DuctCount, Ends, Length, Bore, Repeat, NoDuct}
 use Rattle.plan.specs.Ducts.{joins, between, others, endsKeep, lengthKeeps, boreKeeps, ductKeeps, ductsKeep}
-use Rattle.plan.specs.Edits.{Verdict, asks, andThen, checkEnds, checkDuct, checkRepeat, layOn, liftOff}
-use Rattle.plan.specs.Plans.{PlanSpec}
+use Rattle.plan.specs.Edits.{asks, checkEnds, checkDuct, checkRepeat}
+use Rattle.plan.specs.Refusals.{placed}
+use Rattle.plan.proofs.Asking.{asked-yes, asks-yes, both-yes, then-next}
 use Rattle.plan.proofs.Keeping.{keep-push}
 
-pub refused-not-accepted : {X : Type 0} {e : Refusal} {x : X} {P : Type 0} → Err e ≡ Ok x → P
-refused-not-accepted h = absurd (let z : _≡_ {A = ℕ} 0 1 = cc in omega arith)
-
--- three questions that all got a yes
-all-yes : (x y z : Bool) (e f g : Refusal) → Ok tt ≡ andThen (asks x e) (andThen (asks y f) (asks z g)) → (x && (y && z)) ≡ true
-all-yes true true true e f g h = refl
-all-yes true true false e f g h = refused-not-accepted (sym h)
-all-yes true false z e f g h = refused-not-accepted (sym h)
-all-yes false y z e f g h = refused-not-accepted (sym h)
-
-pub checked-keeps : (pits place : ℕ) (d : Duct) → Ok tt ≡ checkDuct pits place d → ductKeeps pits d ≡ true
-checked-keeps pits place d h = all-yes (endsKeep pits (d .first) (d .second)) (lengthKeeps (d .length)) (boreKeeps (d .bore)) _ _ _ h
+pub checked-keeps : (pits place : ℕ) (d : Duct) → checkDuct pits place d ≡ Ok tt → ductKeeps pits d ≡ true
+checked-keeps pits place d h =
+    let p = both-yes (checkEnds pits place (d .first) (d .second)) _ tt h in
+    let q = both-yes (asks (lengthKeeps (d .length)) (placed 6 place)) _ tt (p .1) in
+    and-from (endsKeep pits (d .first) (d .second)) _ (asked-yes _ (placed 5 place) (p .0))
+    (and-from (lengthKeeps (d .length)) (boreKeeps (d .bore)) (asked-yes _ (placed 6 place) (q .0)) (asked-yes _ (placed 7 place) (q .1)))
 
 pub keeps-checked : (pits place : ℕ) (d : Duct) → ductKeeps pits d ≡ true → checkDuct pits place d ≡ Ok tt
 keeps-checked pits place d h =
     let p = and-parts (endsKeep pits (d .first) (d .second)) (lengthKeeps (d .length) && boreKeeps (d .bore)) h in
     let q = and-parts (lengthKeeps (d .length)) (boreKeeps (d .bore)) (p .1) in
-    ap (λ t. andThen (asks t (Ends place)) (andThen (asks (lengthKeeps (d .length)) (Length place)) (asks (boreKeeps (d .bore)) (Bore place)))) (p .0)
-    ∙ ap (λ t. andThen (asks t (Length place)) (asks (boreKeeps (d .bore)) (Bore place))) (q .0)
-    ∙ ap (λ t. asks t (Bore place)) (q .1)
-
--- a checked duct that is no repeat, written after the n ducts that stand
-pub laid-sound :
-    (pits n place : ℕ) (ds : List Duct) (d : Duct) → n < length ds → ductsKeep pits (take n ds) ≡ true → Ok tt ≡ checkDuct pits place d
-    → isSome (between (take n ds) (d .first) (d .second)) ≡ false → ductsKeep pits (take (n + 1) (set ds n d)) ≡ true
-laid-sound pits n place ds d h keep own new =
-    ap (ductsKeep pits) (take-more-set ds n d h) ∙ keep-push pits (take n ds) d keep (checked-keeps pits place d own) new
-
-refused-if : (t : Bool) (e : Refusal) (v : Verdict) → v ≡ cond t (Err e) (Ok tt) → v ≡ Ok tt → t ≡ false
-refused-if true e v h k = refused-not-accepted (sym h ∙ k)
-refused-if false e v h k = refl
+    then-next _ _ (asks-yes _ (placed 5 place) (p .0)) ∙ then-next _ _ (asks-yes _ (placed 6 place) (q .0)) ∙ asks-yes _ (placed 7 place) (q .1)
 
 -- no duct of ds joins the same two pits as d
 pub not-taken : (ds : List Duct) (place : ℕ) (d : Duct) → checkRepeat ds place d ≡ Ok tt → isSome (between ds (d .first) (d .second)) ≡ false
-not-taken ds place d h = refused-if (isSome (between ds (d .first) (d .second))) (Repeat place) (checkRepeat ds place d) refl h
+not-taken ds place d h = not-true _ (asked-yes (not (isSome (between ds (d .first) (d .second)))) (placed 8 place) h)
+
+-- a checked duct that is no repeat, written after the n ducts that stand
+pub laid-sound :
+    (pits n place : ℕ) (ds : List Duct) (d : Duct) → n < length ds → ductsKeep pits (take n ds) ≡ true → checkDuct pits place d ≡ Ok tt
+    → checkRepeat (take n ds) place d ≡ Ok tt → ductsKeep pits (take (n + 1) (set ds n d)) ≡ true
+laid-sound pits n place ds d h keep own new =
+    ap (ductsKeep pits) (take-more-set ds n d h) ∙ keep-push pits (take n ds) d keep (checked-keeps pits place d own) (not-taken (take n ds) place d new)
 
 -- the first n places of xs hold those of the first i items that do not join a and b
 pub record Lifting (n : ℕ) (xs : List Duct) (i : ℕ) (items : List Duct) (a b : ℕ) : Type 0 where

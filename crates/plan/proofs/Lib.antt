@@ -1,3 +1,4 @@
+pub mod Asking
 pub mod Keeping
 pub mod Ruling
 pub mod Finding

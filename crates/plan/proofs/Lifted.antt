@@ -77,7 +77,7 @@ parted pits (d ∷ ds) a b keep there =
     parted-front pits d ds a b keep there (λ h. parted pits ds a b (keep-front pits d ds keep .rest) h) (joins d a b) refl
 
 pub lifts-one :
-    (p q : PlanSpec) (a b : ℕ) → ductsKeep (p .pits) (p .ducts) ≡ true → isSome (between (p .ducts) a b) ≡ true → q .ducts ≡ others (p .ducts) a b → WithoutOne p a b q
-lifts-one p q a b keep there e =
+    (p q : PlanSpec) (a b : ℕ) → ductsKeep (p .pits) (p .ducts) ≡ true → isSome (between (p .ducts) a b) ≡ true → q .ducts ≡ others (p .ducts) a b → q .pits ≡ p .pits → WithoutOne p a b q
+lifts-one p q a b keep there e same =
     let w = parted (p .pits) (p .ducts) a b keep there in
-    record { before = w .before; duct = w .duct; after = w .after; was = w .was; joined = w .joined; left = e ∙ w .left }
+    record { before = w .before; duct = w .duct; after = w .after; was = w .was; ends = w .joined; becomes = e ∙ w .left; pits = same }

@@ -28,10 +28,10 @@ own-rules pits d h =
     record {
       rising = ltb-true (d .first) (d .second) (e .0);
       onPlan = ltb-true (d .second) pits (e .1);
-      some = leb-true 1 (d .length) (l .0);
-      short = leb-true (d .length) 1000000 (l .1);
-      wide = leb-true 10 (d .bore) (b .0);
-      narrow = leb-true (d .bore) 300 (b .1);
+      lengthLeast = leb-true 1 (d .length) (l .0);
+      lengthMost = leb-true (d .length) 1000000 (l .1);
+      boreLeast = leb-true 10 (d .bore) (b .0);
+      boreMost = leb-true (d .bore) 300 (b .1);
     }
 
 -- each duct of ducts that keep the rules
@@ -39,6 +39,14 @@ each-rules : (pits : ℕ) (ds : List Duct) → ductsKeep pits ds ≡ true → (i
 each-rules pits [] h i z lt = absurd (let w : ⊥ = omega arith in w)
 each-rules pits (d ∷ ds) h zero z lt = own-rules pits d (keep-front pits d ds h .own)
 each-rules pits (d ∷ ds) h (suc i) z lt = each-rules pits ds (keep-front pits d ds h .rest) i z (omega arith)
+
+-- no duct has its ends on a plan without pits
+no-pits : (pits : ℕ) (ds : List Duct) → ductsKeep pits ds ≡ true → pits ≡ 0 → ds ≡ []
+no-pits pits [] h none = refl
+no-pits pits (d ∷ ds) h none =
+    let r = own-rules pits d (keep-front pits d ds h .own) in
+    let off = r .onPlan in
+    absurd (let w : ⊥ = omega arith in w)
 
 same-joins : (d e : Duct) → SamePits d e → joins e (d .first) (d .second) ≡ true
 same-joins d e (inl s) = let p = s .0 in let q = s .1 in grind (arith, tells)
@@ -67,6 +75,7 @@ plan-rules p =
     record {
       fewPits = p .small;
       fewDucts = let e = length-ducts p in let h = p .few in omega arith;
+      blank = λ none. no-pits (p .pits) (planOf p .ducts) (p .sound) none;
       each = each-rules (p .pits) (planOf p .ducts) (p .sound);
       apart = all-apart (p .pits) (planOf p .ducts) (p .sound);
     }
@@ -76,8 +85,8 @@ rules-own pits d r =
     and-from (endsKeep pits (d .first) (d .second)) _
     (and-from (ltb (d .first) (d .second)) _ (lt-ltb (d .first) (d .second) (r .rising)) (lt-ltb (d .second) pits (r .onPlan)))
     (and-from (lengthKeeps (d .length)) _
-    (and-from (leb 1 (d .length)) _ (le-leb 1 (d .length) (r .some)) (le-leb (d .length) 1000000 (r .short)))
-    (and-from (leb 10 (d .bore)) _ (le-leb 10 (d .bore) (r .wide)) (le-leb (d .bore) 300 (r .narrow))))
+    (and-from (leb 1 (d .length)) _ (le-leb 1 (d .length) (r .lengthLeast)) (le-leb (d .length) 1000000 (r .lengthMost)))
+    (and-from (leb 10 (d .bore)) _ (le-leb 10 (d .bore) (r .boreLeast)) (le-leb (d .bore) 300 (r .boreMost))))
 
 joins-same : (d e : Duct) → joins e (d .first) (d .second) ≡ true → SamePits d e
 joins-same d e h =

@@ -1,4 +1,4 @@
--- What a duct must be, which pits it joins, and what the ducts of a plan keep. Assumes nothing.
+-- What a duct must be, which pits it joins, and what the ducts of a plan keep.
 use mathlib.Core.Bool.{Bool, true, false, not, _&&_, _||_, cond}
 use mathlib.Core.List.{List, [], _∷_}
 use Prim.Native.Nat.{ℕ}
@@ -31,7 +31,7 @@ unfoldable pub between : List Duct → ℕ → ℕ → Option Duct
 between [] a b = None
 between (d ∷ ds) a b = cond (joins d a b) (Some d) (between ds a b)
 
--- the ducts but the one between a and b, in their order
+-- the ducts that do not join a and b, in their order
 unfoldable pub others : List Duct → ℕ → ℕ → List Duct
 others [] a b = []
 others (d ∷ ds) a b = cond (joins d a b) (others ds a b) (d ∷ others ds a b)

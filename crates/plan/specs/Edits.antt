@@ -1,5 +1,5 @@
--- What lay and lift make of a plan: each question in its order, and the first no refuses. Assumes nothing.
-use mathlib.Core.Bool.{Bool, true, false, cond}
+-- What lay and lift make of a plan: each question in its order, and the first no refuses.
+use mathlib.Core.Bool.{Bool, true, false, cond, not}
 use mathlib.Core.List.{List, [], _∷_, _++_}
 use mathlib.Core.Path.{_≡_}
 use Prim.Native.Nat.{ℕ}
@@ -9,52 +9,51 @@ use Rattle.std.specs.Options.{isSome}
 use Rattle.std.specs.declared.result.Result.{Result}
 use Rattle.std.specs.declared.result.Result.the-variants.{Ok, Err}
 use Rattle.plan.specs.declared.ducts.Duct.{Duct}
-use Rattle.plan.specs.declared.refusals.Refusal.{Refusal}
-use Rattle.plan.specs.declared.refusals.Refusal.the-variants.{DuctCount, Ends, Length, Bore, Repeat, NoDuct}
 use Rattle.plan.specs.Limits.{mostDucts}
 use Rattle.plan.specs.Ducts.{joins, endsKeep, lengthKeeps, boreKeeps, between, others}
 use Rattle.plan.specs.Plans.{PlanSpec}
+use Rattle.plan.specs.Refusals.{Told, plain, placed}
 
 -- the answer yes, or a refusal
 abbrev pub Verdict : Type 0
-Verdict = Result (Unit {0}) Refusal
+Verdict = Result (Unit {0}) Told
 
 -- a question: yes, or the refusal
-abbrev pub asks : Bool → Refusal → Verdict
+abbrev pub asks : Bool → Told → Verdict
 asks b e = cond b (Ok tt) (Err e)
 
 -- the next question, after a yes
-abbrev pub andThen : {X : Type 0} → Verdict → Result X Refusal → Result X Refusal
+abbrev pub andThen : {X : Type 0} → Verdict → Result X Told → Result X Told
 andThen (Ok u) next = next
 andThen (Err e) next = Err e
 
--- the question on two ends
+-- question 5, on two ends
 abbrev pub checkEnds : ℕ → ℕ → ℕ → ℕ → Verdict
-checkEnds pits place a b = asks (endsKeep pits a b) (Ends place)
+checkEnds pits place a b = asks (endsKeep pits a b) (placed 5 place)
 
--- the questions on one duct by itself: its ends, its length, its bore
+-- questions 5 to 7, on one duct by itself: its ends, its length, its bore
 abbrev pub checkDuct : ℕ → ℕ → Duct → Verdict
 checkDuct pits place d =
     andThen (checkEnds pits place (d .first) (d .second))
-    (andThen (asks (lengthKeeps (d .length)) (Length place)) (asks (boreKeeps (d .bore)) (Bore place)))
+    (andThen (asks (lengthKeeps (d .length)) (placed 6 place)) (asks (boreKeeps (d .bore)) (placed 7 place)))
 
--- no duct joins the same two pits as d
+-- question 8: none of the ducts joins the same two pits as d
 abbrev pub checkRepeat : List Duct → ℕ → Duct → Verdict
-checkRepeat ds place d = cond (isSome (between ds (d .first) (d .second))) (Err (Repeat place)) (Ok tt)
+checkRepeat ds place d = asks (not (isSome (between ds (d .first) (d .second)))) (placed 8 place)
 
--- the plan with the duct laid last
-abbrev pub layOn : PlanSpec → Duct → Result PlanSpec Refusal
+-- a lay asks 5 to 8, then 3 for the grown list; the duct comes last
+abbrev pub layOn : PlanSpec → Duct → Result PlanSpec Told
 layOn p d =
     andThen (checkDuct (p .pits) 0 d)
     (andThen (checkRepeat (p .ducts) 0 d)
-    (andThen (asks (ltb (length (p .ducts)) mostDucts) DuctCount)
+    (andThen (asks (ltb (length (p .ducts)) mostDucts) (plain 3))
     (Ok (record { pits = p .pits; ducts = p .ducts ++ d ∷ [] }))))
 
--- the plan with the duct between its ends lifted
-abbrev pub liftOff : PlanSpec → ℕ → ℕ → Result PlanSpec Refusal
+-- a lift asks 5, then 10; the other ducts keep their order
+abbrev pub liftOff : PlanSpec → ℕ → ℕ → Result PlanSpec Told
 liftOff p a b =
     andThen (checkEnds (p .pits) 0 a b)
-    (andThen (asks (isSome (between (p .ducts) a b)) NoDuct)
+    (andThen (asks (isSome (between (p .ducts) a b)) (plain 10))
     (Ok (record { pits = p .pits; ducts = others (p .ducts) a b })))
 
 -- q is p without one duct, which joins the pits a and b; the others keep their order
@@ -63,5 +62,6 @@ pub record WithoutOne (p : PlanSpec) (a b : ℕ) (q : PlanSpec) : Type 0 where
   pub duct : Duct
   pub after : List Duct
   pub was : p .ducts ≡ before ++ duct ∷ after
-  pub joined : joins duct a b ≡ true
-  pub left : q .ducts ≡ before ++ after
+  pub ends : joins duct a b ≡ true
+  pub becomes : q .ducts ≡ before ++ after
+  pub pits : q .pits ≡ p .pits

@@ -1,4 +1,4 @@
--- The limits of a plan. Assumes nothing.
+-- The limits of a plan.
 use Prim.Native.Nat.{ℕ}
 
 abbrev pub mostPits : ℕ

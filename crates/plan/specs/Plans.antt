@@ -1,4 +1,4 @@
--- What a plan means: its pits and its list of ducts. Assumes nothing.
+-- What a plan means: its pits and its list of ducts.
 use mathlib.Core.List.{List, []}
 use Prim.Native.Nat.{ℕ}
 use lib.ListN.{take}
@@ -7,6 +7,7 @@ use Rattle.std.specs.declared.result.Result.the-variants.{Ok, Err}
 use Rattle.plan.specs.declared.ducts.Duct.{Duct}
 use Rattle.plan.specs.declared.plans.Plan.{Plan}
 use Rattle.plan.specs.declared.refusals.Refusal.{Refusal}
+use Rattle.plan.specs.Refusals.{Told, told}
 
 pub record PlanSpec : Type 0 where
   pub pits : ℕ
@@ -20,7 +21,7 @@ planOf p = record { pits = p .pits; ducts = take (p .count) (p .ducts) }
 abbrev pub blankPlan : PlanSpec
 blankPlan = record { pits = 0; ducts = [] }
 
--- what a call gives, by the plan that it holds
-abbrev pub planned : Result Plan Refusal → Result PlanSpec Refusal
-planned (Ok p) = Ok (planOf p)
-planned (Err e) = Err e
+-- what a call that gives a plan answers: the plan that the value holds, or the refusal as it is told
+abbrev pub heardPlan : Result Plan Refusal → Result PlanSpec Told
+heardPlan (Ok p) = Ok (planOf p)
+heardPlan (Err e) = Err (told e)

@@ -1,28 +1,35 @@
--- What each refusal tells: its number and its two figures, and the rule in words. Assumes nothing.
+-- What each refusal tells: its number and its two figures, and the rule in words.
 use mathlib.Core.List.{List}
 use Prim.Native.Nat.{ℕ}
 use lib.Chars.{codes}
+use Rattle.std.specs.declared.result.Result.{Result}
+use Rattle.std.specs.declared.result.Result.the-variants.{Ok, Err}
 use Rattle.plan.specs.declared.refusals.Refusal.{Refusal}
 use Rattle.plan.specs.declared.refusals.Refusal.the-variants.{ShortFile, PitCount, DuctCount, FileSize, Ends, Length, Bore, Repeat, Unfit, NoDuct, OffPlan, ShortList, NoWay, BlankPlan, ShortBuffer}
 
+-- a refusal as it is told: its number and its two figures
 pub record Told : Type 0 where
   pub number : ℕ
   pub first : ℕ
   pub second : ℕ
 
+-- a refusal with no figures
 abbrev pub plain : ℕ → Told
 plain n = record { number = n; first = 0; second = 0 }
 
--- the first figure of 5 to 8 is the duct's place; those of 9 are a depth and a pit count
+-- a refusal with the place of a duct
+abbrev pub placed : ℕ → ℕ → Told
+placed n place = record { number = n; first = place; second = 0 }
+
 abbrev pub told : Refusal → Told
 told ShortFile = plain 1
 told PitCount = plain 2
 told DuctCount = plain 3
 told FileSize = plain 4
-told (Ends place) = record { number = 5; first = place; second = 0 }
-told (Length place) = record { number = 6; first = place; second = 0 }
-told (Bore place) = record { number = 7; first = place; second = 0 }
-told (Repeat place) = record { number = 8; first = place; second = 0 }
+told (Ends place) = placed 5 place
+told (Length place) = placed 6 place
+told (Bore place) = placed 7 place
+told (Repeat place) = placed 8 place
 told (Unfit depth pits) = record { number = 9; first = depth; second = pits }
 told NoDuct = plain 10
 told OffPlan = plain 11
@@ -30,6 +37,11 @@ told ShortList = plain 12
 told NoWay = plain 13
 told BlankPlan = plain 14
 told ShortBuffer = plain 15
+
+-- what a call answers, with a refusal as it is told
+abbrev pub heard : {X : Type 0} → Result X Refusal → Result X Told
+heard (Ok x) = Ok x
+heard (Err e) = Err (told e)
 
 -- the rule that was broken, as a reader is told it
 abbrev pub inWords : Refusal → List ℕ

@@ -1,6 +1,7 @@
 ghost use mathlib.Core.Path.{_≡_};
 ghost use Rattle.plan.specs.Ducts.{joins as joinsPits};
 ghost use Rattle.plan.specs.Edits.{checkDuct, checkEnds};
+ghost use Rattle.plan.specs.Refusals.{heard};
 use crate::ducts::Duct;
 use crate::limits::MAX_BORE;
 use crate::limits::MAX_LENGTH;
@@ -9,7 +10,7 @@ use crate::refusals::Refusal;
 
 // Question 5: are the two ends pits of a plan of so many pits, the first below the second?
 pub fn check_ends(pits: u16, place: u16, first: u16, second: u16) -> Result<(), Refusal>
-    ensures { λ r. ⌜ r ≡ checkEnds pits place first second ⌝ }
+    ensures { λ r. ⌜ heard r ≡ checkEnds pits place first second ⌝ }
 {
     if first < second && second < pits {
         Ok(())
@@ -28,7 +29,7 @@ impl Duct {
 
     // Questions 5 to 7 on a duct of a plan of so many pits: its ends, its length, its bore.
     pub fn check(&self, pits: u16, place: u16) -> Result<(), Refusal>
-        ensures { λ r. ⌜ r ≡ checkDuct pits place (now (self .entry)) ⌝ }
+        ensures { λ r. ⌜ heard r ≡ checkDuct pits place (now (self .entry)) ⌝ }
     {
         check_ends(pits, place, self.first, self.second)?;
         if self.length < 1 || self.length > MAX_LENGTH {

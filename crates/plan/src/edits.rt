@@ -4,11 +4,12 @@ ghost use mathlib.Core.Path.{_≡_};
 ghost use Prim.Native.Nat.{_<_};
 ghost use lib.ListN.{length};
 ghost use Rattle.std.specs.Options.{isSome};
-ghost use Rattle.std.specs.Vec.{made};
+ghost use Rattle.std.specs.Results.{Cases};
 ghost use Rattle.std.specs.declared.result.Result.the-variants.{Ok};
 ghost use Rattle.plan.specs.Ducts.{between, others};
 ghost use Rattle.plan.specs.Edits.{checkDuct, checkRepeat, layOn, liftOff, WithoutOne};
-ghost use Rattle.plan.specs.Plans.{planOf, planned};
+ghost use Rattle.plan.specs.Refusals.{heard};
+ghost use Rattle.plan.specs.Plans.{planOf, heardPlan};
 use crate::checks;
 use crate::ducts::Duct;
 use crate::limits::MAX_DUCTS;
@@ -18,7 +19,7 @@ use crate::refusals::Refusal;
 impl Plan {
     // The plan with a duct laid last. The change is made in a copy, so a refused lay leaves this plan.
     pub fn lay(&self, duct: Duct) -> Result<Plan, Refusal>
-        ensures { λ r. ⌜ planned r ≡ layOn (planOf (now (self .entry))) duct ⌝ }
+        ensures { λ r. ⌜ heardPlan r ≡ layOn (planOf (now (self .entry))) duct ⌝ }
     {
         duct.check(self.pits, 0)?;
         self.check_repeat(&duct)?;
@@ -31,8 +32,8 @@ impl Plan {
     // The plan without the duct between two ends: one duct is gone, and the others keep their order. A refused lift leaves
     // this plan too.
     pub fn lift(&self, first: u16, second: u16) -> Result<Plan, Refusal>
-        ensures answer { λ r. ⌜ planned r ≡ liftOff (planOf (now (self .entry))) first second ⌝ }
-        ensures one { λ r. ⌜ made r (λ q. WithoutOne (planOf (now (self .entry))) first second (planOf q)) ⌝ }
+        ensures answer { λ r. ⌜ heardPlan r ≡ liftOff (planOf (now (self .entry))) first second ⌝ }
+        ensures one { λ r. ⌜ Cases r (λ q. WithoutOne (planOf (now (self .entry))) first second (planOf q)) (λ _. Unit {0}) ⌝ }
     {
         checks::check_ends(self.pits, 0, first, second)?;
         if self.duct_between(first, second).is_none() {
@@ -43,7 +44,7 @@ impl Plan {
 
     // Question 8 on a duct that is to be laid: does no duct of the plan join the same two pits?
     fn check_repeat(&self, duct: &Duct) -> Result<(), Refusal>
-        ensures { λ r. ⌜ r ≡ checkRepeat (planOf (now (self .entry)) .ducts) 0 (now (duct .entry)) ⌝ }
+        ensures { λ r. ⌜ heard r ≡ checkRepeat (planOf (now (self .entry)) .ducts) 0 (now (duct .entry)) ⌝ }
     {
         if self.duct_between(duct.first, duct.second).is_some() {
             Err(Refusal::Repeat { place: 0 })

@@ -6,7 +6,7 @@ use crate::ducts::Duct;
 use crate::limits::MAX_DUCTS;
 use crate::plans::Plan;
 
-// A place of the array that holds no duct of the plan.
+// What stands in a place of the array that holds no duct of the plan.
 pub const UNUSED: Duct = Duct {
     first: 0,
     second: 0,
@@ -38,8 +38,14 @@ impl Plan {
         ensures list { λ r. ⌜ now r ≡ planOf (now (self .entry)) .ducts ⌝ }
         ensures rules { λ _. ⌜ Rules (planOf (now (self .entry))) ⌝ }
     {
+        self.rules();
         &self.ducts[0..self.count as usize]
     }
+
+    // Says that the plan keeps the rules, which its type holds. Nothing is computed.
+    fn rules(&self)
+        ensures { λ _. ⌜ Rules (planOf (now (self .entry))) ⌝ }
+    {}
 
     // The duct between two pits, if there is one.
     pub fn duct_between(&self, a: u16, b: u16) -> Option<Duct>

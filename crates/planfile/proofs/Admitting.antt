@@ -1,7 +1,7 @@
 -- The questions on a file's ducts, one duct on.
 use mathlib.Core.Path.{_≡_, refl, sym, ap, _∙_}
 use mathlib.Core.List.{List, [], _∷_, _++_}
-use mathlib.Core.Bool.{Bool, true, false, cond, _&&_}
+use mathlib.Core.Bool.{Bool, true, false, not, _&&_}
 use Prim.Native.Nat.{ℕ, _+_, _-_, _*_, _<_, _≤_}
 use native.Mathlib.Omega.{arith}
 use lib.Dec.{eqb, leb}
@@ -15,11 +15,11 @@ use Rattle.std.proofs.shelf.Tests.{and-parts, leb-true, eqb-true}
 use Rattle.plan.specs.Ducts.{joins, between, ductsKeep}
 use Rattle.plan.specs.Edits.{Verdict, asks, andThen, checkDuct, checkRepeat}
 use Rattle.plan.specs.Plans.{PlanSpec}
+use Rattle.plan.specs.Refusals.{Told, plain, placed}
 use Rattle.plan.specs.declared.ducts.Duct.{Duct}
-use Rattle.plan.specs.declared.refusals.Refusal.{Refusal}
-use Rattle.plan.specs.declared.refusals.Refusal.the-variants.{Repeat}
 use Rattle.plan.proofs.Finding.{between-here, between-none}
-use Rattle.plan.proofs.Editing.{refused-not-accepted, laid-sound}
+use Rattle.plan.proofs.Asking.{asked-yes, both-yes}
+use Rattle.plan.proofs.Editing.{laid-sound}
 use Rattle.planfile.specs.Format.{fileSize, ductAt, ductsIn}
 use Rattle.planfile.specs.Loading.{checkSizes, admit, asPlan, decode}
 use Rattle.planfile.specs.Words.{two}
@@ -32,25 +32,18 @@ pub record Sized (bs : List ℕ) : Type 0 where
   pub fewDucts : two bs 2 ≤ 1024
   pub exact : length bs ≡ fileSize (two bs 2)
 
-four-yes :
-    (a b c d : Bool) (e f g h : Refusal) → Ok tt ≡ andThen (asks a e) (andThen (asks b f) (andThen (asks c g) (asks d h)))
-    → (a ≡ true) × (b ≡ true) × (c ≡ true) × (d ≡ true)
-four-yes true true true true e f g h w = (refl, refl, refl, refl)
-four-yes true true true false e f g h w = refused-not-accepted (sym w)
-four-yes true true false d e f g h w = refused-not-accepted (sym w)
-four-yes true false c d e f g h w = refused-not-accepted (sym w)
-four-yes false b c d e f g h w = refused-not-accepted (sym w)
-
-pub sized : (bs : List ℕ) → Ok tt ≡ checkSizes bs → Sized bs
+pub sized : (bs : List ℕ) → checkSizes bs ≡ Ok tt → Sized bs
 sized bs h =
-    let y = four-yes (leb 4 (length bs)) (leb 1 (two bs 0) && leb (two bs 0) 512) (leb (two bs 2) 1024) (eqb (length bs) (fileSize (two bs 2))) _ _ _ _ h in
-    let p = and-parts (leb 1 (two bs 0)) (leb (two bs 0) 512) (y .1) in
+    let p = both-yes (asks (leb 4 (length bs)) (plain 1)) _ tt h in
+    let q = both-yes (asks (leb 1 (two bs 0) && leb (two bs 0) 512) (plain 2)) _ tt (p .1) in
+    let r = both-yes (asks (leb (two bs 2) 1024) (plain 3)) _ tt (q .1) in
+    let pits = and-parts (leb 1 (two bs 0)) (leb (two bs 0) 512) (asked-yes _ (plain 2) (q .0)) in
     record {
-      front = leb-true 4 (length bs) (y .0);
-      somePits = leb-true 1 (two bs 0) (p .0);
-      fewPits = leb-true (two bs 0) 512 (p .1);
-      fewDucts = leb-true (two bs 2) 1024 (y .2);
-      exact = eqb-true (length bs) (fileSize (two bs 2)) (y .3);
+      front = leb-true 4 (length bs) (asked-yes _ (plain 1) (p .0));
+      somePits = leb-true 1 (two bs 0) (pits .0);
+      fewPits = leb-true (two bs 0) 512 (pits .1);
+      fewDucts = leb-true (two bs 2) 1024 (asked-yes _ (plain 3) (r .0));
+      exact = eqb-true (length bs) (fileSize (two bs 2)) (asked-yes _ (plain 4) (r .1));
     }
 
 -- the ducts to come, after the first `count` of ds, give the answer of the whole file
@@ -65,7 +58,7 @@ pub admit-begins :
     → Admitting bs pits 0 ds left
 unfolding ductsKeep
 admit-begins bs pits n ds left ok p m l long =
-    let s = sized bs ok in
+    let s = sized bs (sym ok) in
     let few = s .fewDucts in
     let whole = ap length l ∙ length-map-counting (ductAt _ _) 0 n in
     record {
@@ -91,7 +84,7 @@ module _ {bs : List ℕ} {pits count : ℕ} {ds left : List Duct} (inv : Admitti
 
   -- d is the next duct
   module _ {d : Duct} {rest : List Duct} (next : left ≡ d ∷ rest) where
-    after : Verdict → Verdict → Result PlanSpec Refusal
+    after : Verdict → Verdict → Result PlanSpec Told
     after v w = asPlan pits (andThen v (andThen w (admit pits (take count ds ++ d ∷ []) rest)))
 
     -- the two questions on d, as the code asks them
@@ -102,14 +95,14 @@ module _ {bs : List ℕ} {pits count : ℕ} {ds left : List Duct} (inv : Admitti
         ∙ sym (ap (λ xs. asPlan pits (admit pits (take count ds) xs)) next)
         ∙ inv .answer
 
-    pub admit-refuses : (e : Refusal) → Err e ≡ checkDuct pits count d → Err e ≡ decode bs
+    pub admit-refuses : (e : Told) → Err e ≡ checkDuct pits count d → Err e ≡ decode bs
     unfolding after
     admit-refuses e bad = ap (λ v. after v (checkRepeat (take count ds) count d)) bad ∙ asked
 
-    pub admit-repeats : Ok tt ≡ checkDuct pits count d → isSome (between (take count ds) (d .first) (d .second)) ≡ true → Err (Repeat count) ≡ decode bs
+    pub admit-repeats : Ok tt ≡ checkDuct pits count d → isSome (between (take count ds) (d .first) (d .second)) ≡ true → Err (placed 8 count) ≡ decode bs
     unfolding after
     admit-repeats ok old =
-        sym (ap (λ t. after (Ok tt) (cond t (Err (Repeat count)) (Ok tt))) old)
+        sym (ap (λ t. after (Ok tt) (asks (not t) (placed 8 count))) old)
         ∙ ap (λ v. after v (checkRepeat (take count ds) count d)) ok
         ∙ asked
 
@@ -124,12 +117,12 @@ module _ {bs : List ℕ} {pits count : ℕ} {ds left : List Duct} (inv : Admitti
         record {
           answer =
               ap (λ xs. asPlan pits (admit pits xs rest)) (take-more-set ds count d here)
-              ∙ sym (ap (λ t. after (Ok tt) (cond t (Err (Repeat count)) (Ok tt))) new)
+              ∙ sym (ap (λ t. after (Ok tt) (asks (not t) (placed 8 count))) new)
               ∙ ap (λ v. after v (checkRepeat (take count ds) count d)) ok
               ∙ asked;
           few = omega arith;
           places = length-set ds count d ∙ places;
-          keeps = laid-sound pits count count ds d here (inv .keeps) ok new;
+          keeps = laid-sound pits count count ds d here (inv .keeps) (sym ok) (ap (λ t. asks (not t) (placed 8 count)) new);
         }
 
 -- the earlier ducts, as the slice of them is cut, and whether one joins the pits a and b

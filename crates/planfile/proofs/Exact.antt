@@ -8,24 +8,26 @@ use lib.ListN.{length, take, drop, getD}
 use mir.Syntax.{w8}
 use mir.Val.{Fits}
 use Rattle.std.specs.Iters.{counting}
+use Rattle.std.specs.Results.{Cases}
 use Rattle.std.specs.shelf.Lists.{joined}
 use Rattle.std.specs.declared.result.Result.{Result}
 use Rattle.std.specs.declared.result.Result.the-variants.{Ok, Err}
 use Rattle.std.proofs.shelf.Counted.{length-map-counting}
 use Rattle.std.proofs.shelf.Lists.{append-assoc, append-nil, drop-more, drop-drop, drop-all, take-append-drop, getD-take, getD-drop, length-take-le, length-drop}
-use Rattle.plan.specs.Edits.{Verdict, asks, andThen, checkDuct, checkRepeat}
-use Rattle.plan.specs.Plans.{PlanSpec, planOf, planned}
+use Rattle.plan.specs.Edits.{checkDuct, checkRepeat}
+use Rattle.plan.specs.Plans.{PlanSpec, planOf, heardPlan}
+use Rattle.plan.specs.Refusals.{Told}
 use Rattle.plan.specs.declared.plans.Plan.{Plan}
 use Rattle.plan.specs.declared.ducts.Duct.{Duct}
 use Rattle.plan.specs.declared.refusals.Refusal.{Refusal}
-use Rattle.plan.proofs.Editing.{refused-not-accepted}
+use Rattle.plan.proofs.Asking.{not-both, both-yes}
 use Rattle.plan.proofs.Ruling.{plan-rules, rules-keep}
-use Rattle.planfile.specs.Files.{Judged}
+use Rattle.planfile.specs.Files.{FileOf, NoFile}
 use Rattle.planfile.proofs.Trip.{round-trip}
 use Rattle.planfile.specs.Format.{fileSize, endsOf, sizesOf, encode, ductAt, ductsFrom, ductsIn}
 use Rattle.planfile.specs.Loading.{checkSizes, admit, asPlan, decode}
 use Rattle.planfile.specs.Words.{two, four, twoOf, fourOf}
-use Rattle.planfile.proofs.Admitting.{Sized, sized}
+use Rattle.planfile.proofs.Admitting.{sized}
 
 -- every number of the list is a byte
 abbrev pub Bytes : List ℕ → Type 0
@@ -107,34 +109,18 @@ array-bytes f at w xs i (suc n) each =
     ∙ each i (omega arith)
 
 -- ducts that all got a yes are the ducts that were read
-admit-one : (v w : Verdict) (r : Result (List Duct) Refusal) (xs : List Duct) → andThen v (andThen w r) ≡ Ok xs → r ≡ Ok xs
-admit-one (Ok u) (Ok t) r xs h = h
-admit-one (Ok u) (Err e) r xs h = refused-not-accepted h
-admit-one (Err e) w r xs h = refused-not-accepted h
-
 admit-gives : (pits : ℕ) (earlier ds xs : List Duct) → admit pits earlier ds ≡ Ok xs → xs ≡ earlier ++ ds
 admit-gives pits earlier [] xs h = let e : xs ≡ earlier = cc in e ∙ sym (append-nil earlier)
 admit-gives pits earlier (d ∷ ds) xs h =
-    admit-gives pits (earlier ++ d ∷ []) ds xs (admit-one (checkDuct pits (length earlier) d) (checkRepeat earlier (length earlier) d) _ xs h)
-    ∙ append-assoc earlier (d ∷ []) ds
+    let checked = both-yes (checkDuct pits (length earlier) d) _ xs h in
+    let new = both-yes (checkRepeat earlier (length earlier) d) _ xs (checked .1) in
+    admit-gives pits (earlier ++ d ∷ []) ds xs (new .1) ∙ append-assoc earlier (d ∷ []) ds
 
--- what an accepted file says of its plan
-pub record Given (bs : List ℕ) (p : PlanSpec) : Type 0 where
-  pub sizes : Ok tt ≡ checkSizes bs
-  pub pits : p .pits ≡ two bs 0
-  pub ducts : p .ducts ≡ ductsIn bs (two bs 2)
-
-as-plan : (n : ℕ) (r : Result (List Duct) Refusal) (p : PlanSpec) → asPlan n r ≡ Ok p → (p .pits ≡ n) × (r ≡ Ok (p .ducts))
+as-plan : (n : ℕ) (r : Result (List Duct) Told) (p : PlanSpec) → asPlan n r ≡ Ok p → (p .pits ≡ n) × (r ≡ Ok (p .ducts))
 as-plan n (Ok ds) p h =
     let e : record { pits = n; ducts = ds } ≡ p = cc in
     (ap (λ q. q .pits) (sym e), ap (λ q. Ok (q .ducts)) e)
-as-plan n (Err e) p h = refused-not-accepted h
-
-given : (bs : List ℕ) (p : PlanSpec) (v : Verdict) → v ≡ checkSizes bs → andThen v (asPlan (two bs 0) (admit (two bs 0) [] (ductsIn bs (two bs 2)))) ≡ Ok p → Given bs p
-given bs p (Ok u) e h =
-    let a = as-plan (two bs 0) (admit (two bs 0) [] (ductsIn bs (two bs 2))) p h in
-    record { sizes = e; pits = a .0; ducts = admit-gives (two bs 0) [] (ductsIn bs (two bs 2)) (p .ducts) (a .1) }
-given bs p (Err x) e h = refused-not-accepted h
+as-plan n (Err e) p h = not-both h
 
 module _ (bs : List ℕ) (n : ℕ) (fit : Bytes bs) (exact : length bs ≡ fileSize n) where
   es : List ℕ
@@ -198,23 +184,26 @@ module _ (bs : List ℕ) (n : ℕ) (fit : Bytes bs) (exact : length bs ≡ fileS
 
 pub accepted-is-file : (bs : List ℕ) (p : PlanSpec) → Bytes bs → decode bs ≡ Ok p → (1 ≤ p .pits) × (encode p ≡ bs)
 accepted-is-file bs p fit h =
-    let g = given bs p (checkSizes bs) refl h in
-    let s = sized bs (g .sizes) in
+    let sizes = both-yes (checkSizes bs) _ p h in
+    let s = sized bs (sizes .0) in
     let some = s .somePits in
-    let pits = g .pits in
     let n : ℕ = two bs 2 in
-    let long : length (p .ducts) ≡ n = ap length (g .ducts) ∙ length-map-counting (ductAt _ _) 0 n in (
+    let plan = as-plan (two bs 0) (admit (two bs 0) [] (ductsIn bs n)) p (sizes .1) in
+    let pits = plan .0 in
+    let ducts : p .ducts ≡ ductsIn bs n = admit-gives (two bs 0) [] (ductsIn bs n) (p .ducts) (plan .1) in
+    let long : length (p .ducts) ≡ n = ap length ducts ∙ length-map-counting (ductAt _ _) 0 n in (
       omega arith,
       ap (λ k. twoOf k ++ twoOf (length (p .ducts)) ++ joined endsOf (p .ducts) ++ joined sizesOf (p .ducts)) pits
           ∙ ap (λ k. twoOf (two bs 0) ++ twoOf k ++ joined endsOf (p .ducts) ++ joined sizesOf (p .ducts)) long
-          ∙ ap (λ ds. twoOf (two bs 0) ++ twoOf n ++ joined endsOf ds ++ joined sizesOf ds) (g .ducts)
+          ∙ ap (λ ds. twoOf (two bs 0) ++ twoOf n ++ joined endsOf ds ++ joined sizesOf ds) ducts
           ∙ file-again bs n fit (s .exact) refl,
     )
 
 -- every answer, by the file alone
-pub judged : (bs : List ℕ) → ((i : ℕ) → Fits w8 (getD bs i 0)) → (r : Result Plan Refusal) → planned r ≡ decode bs → Judged (planned r) bs
+pub judged :
+    (bs : List ℕ) → ((i : ℕ) → Fits w8 (getD bs i 0)) → (r : Result Plan Refusal) → heardPlan r ≡ decode bs → Cases r (λ p. FileOf (planOf p) bs) (λ _. NoFile bs)
 judged bs fit (Ok p) h =
     let f = accepted-is-file bs (planOf p) (λ i below. fit i .fits) (sym h) in
     record { some = f .0; rules = plan-rules p; bytes = f .1 }
 judged bs fit (Err e) h = λ p f.
-    refused-not-accepted (h ∙ ap decode (sym (f .bytes)) ∙ round-trip p (f .some) (f .rules .fewPits) (f .rules .fewDucts) (rules-keep p (f .rules)))
+    not-both (h ∙ ap decode (sym (f .bytes)) ∙ round-trip p (f .some) (f .rules .fewPits) (f .rules .fewDucts) (rules-keep p (f .rules)))

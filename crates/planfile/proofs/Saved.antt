@@ -3,23 +3,15 @@ use mathlib.Core.Path.{_≡_, refl, sym, ap, _∙_}
 use mathlib.Core.List.{List, _++_}
 use mathlib.Core.Bool.{Bool, true}
 use Prim.Native.Nat.{ℕ, _+_, _*_, _≤_}
-use native.Mathlib.Omega.{arith}
-use lib.Dec.{leb}
 use lib.ListN.{length, take, drop}
 use Rattle.std.specs.shelf.Lists.{joined}
-use Rattle.std.specs.declared.result.Result.{Result}
-use Rattle.std.specs.declared.result.Result.the-variants.{Ok, Err}
+use Rattle.std.specs.declared.result.Result.the-variants.{Ok}
 use Rattle.std.proofs.shelf.Lists.{take-at}
-use Rattle.std.proofs.shelf.Tests.{le-leb}
 use Rattle.plan.specs.Ducts.{ductsKeep}
-use Rattle.plan.specs.Edits.{asks, andThen}
 use Rattle.plan.specs.Plans.{PlanSpec}
 use Rattle.plan.specs.declared.ducts.Duct.{Duct}
-use Rattle.plan.specs.declared.refusals.Refusal.{Refusal}
-use Rattle.plan.specs.declared.refusals.Refusal.the-variants.{BlankPlan, ShortBuffer}
 use Rattle.planfile.specs.Format.{fileSize, endsOf, sizesOf, encode}
 use Rattle.planfile.specs.Loading.{decode}
-use Rattle.planfile.specs.Saving.{saveIn}
 use Rattle.planfile.specs.Words.{over, twoOf}
 use Rattle.planfile.proofs.Arrays.{length-encode, file-put}
 use Rattle.planfile.proofs.Trip.{round-trip}

@@ -1,7 +1,7 @@
 -- What is saved reads back as it was.
 use mathlib.Core.Path.{_≡_, refl, sym, ap, _∙_}
 use mathlib.Core.List.{List, [], _∷_, _++_}
-use mathlib.Core.Bool.{Bool, true, false, cond, _&&_}
+use mathlib.Core.Bool.{Bool, true, false, not, _&&_}
 use Prim.Native.Nat.{ℕ, suc, _+_, _*_, _-_, _/_, _%_, _<_, _≤_}
 use native.Mathlib.Omega.{arith}
 use lib.Dec.{eqb, leb}
@@ -15,10 +15,10 @@ use Rattle.std.proofs.shelf.Tests.{le-leb, eq-eqb, and-from}
 use Rattle.plan.specs.Ducts.{between, ductKeeps, ductsKeep}
 use Rattle.plan.specs.Edits.{Verdict, asks, andThen, checkDuct, checkRepeat}
 use Rattle.plan.specs.Plans.{PlanSpec}
+use Rattle.plan.specs.Refusals.{Told, plain, placed}
 use Rattle.plan.specs.Rules.{DuctRules}
 use Rattle.plan.specs.declared.ducts.Duct.{Duct}
-use Rattle.plan.specs.declared.refusals.Refusal.{Refusal}
-use Rattle.plan.specs.declared.refusals.Refusal.the-variants.{ShortFile, PitCount, DuctCount, FileSize, Repeat}
+use Rattle.plan.proofs.Asking.{asks-yes, then-next}
 use Rattle.plan.proofs.Editing.{keeps-checked}
 use Rattle.plan.proofs.Keeping.{keep-front, keep-middle}
 use Rattle.plan.proofs.Ruling.{own-rules}
@@ -38,9 +38,9 @@ keeps-admitted : (pits : ℕ) (earlier ds : List Duct) → ductsKeep pits (earli
 keeps-admitted pits earlier [] keep = ap (λ xs. Ok xs) (sym (append-nil earlier))
 keeps-admitted pits earlier (d ∷ ds) keep =
     let m = keep-middle pits earlier d ds keep in
-    let rest : Result (List Duct) Refusal = admit pits (earlier ++ d ∷ []) ds in
-    ap (λ v. andThen v (andThen (checkRepeat earlier (length earlier) d) rest)) (keeps-checked pits (length earlier) d (m .0))
-    ∙ ap (λ t. andThen (cond t (Err (Repeat (length earlier))) (Ok tt)) rest) (m .1)
+    let rest : Result (List Duct) Told = admit pits (earlier ++ d ∷ []) ds in
+    then-next _ _ (keeps-checked pits (length earlier) d (m .0))
+    ∙ then-next _ rest (ap (λ t. asks (not t) (placed 8 (length earlier))) (m .1))
     ∙ keeps-admitted pits (earlier ++ d ∷ []) ds (ap (ductsKeep pits) (append-assoc earlier (d ∷ []) ds) ∙ keep)
     ∙ ap (λ xs. Ok xs) (append-assoc earlier (d ∷ []) ds)
 
@@ -68,8 +68,8 @@ small : (pits : ℕ) (d : Duct) → pits ≤ 512 → DuctRules pits d → (d .fi
 small pits d h r =
     let a = r .rising in
     let b = r .onPlan in
-    let c = r .short in
-    let e = r .narrow in
+    let c = r .lengthMost in
+    let e = r .boreMost in
     (omega arith, omega arith, omega arith, omega arith)
 
 duct-back :
@@ -128,22 +128,17 @@ module _ (p : PlanSpec) (some : 1 ≤ p .pits) (pits : p .pits ≤ 512) (few : l
       let len = length-encode p in
       let e = pits-back in
       let f = count-back in
-      let questions : Bool → Bool → Bool → Bool → Verdict = λ a b c d.
-      andThen (asks a ShortFile) (andThen (asks b PitCount) (andThen (asks c DuctCount) (asks d FileSize))) in
       let a : leb 4 (length bs) ≡ true = le-leb 4 (length bs) (omega arith) in
       let b : (leb 1 (two bs 0) && leb (two bs 0) 512) ≡ true =
       and-from (leb 1 (two bs 0)) (leb (two bs 0) 512) (le-leb 1 (two bs 0) (omega arith)) (le-leb (two bs 0) 512 (omega arith)) in
       let c : leb (two bs 2) 1024 ≡ true = le-leb (two bs 2) 1024 (omega arith) in
       let d : eqb (length bs) (fileSize (two bs 2)) ≡ true = eq-eqb (length bs) (fileSize (two bs 2)) (omega arith) in
-      ap (λ t. questions t (leb 1 (two bs 0) && leb (two bs 0) 512) (leb (two bs 2) 1024) (eqb (length bs) (fileSize (two bs 2)))) a
-      ∙ ap (λ t. questions true t (leb (two bs 2) 1024) (eqb (length bs) (fileSize (two bs 2)))) b
-      ∙ ap (λ t. questions true true t (eqb (length bs) (fileSize (two bs 2)))) c
-      ∙ ap (questions true true true) d
+      then-next _ _ (asks-yes _ (plain 1) a) ∙ then-next _ _ (asks-yes _ (plain 2) b) ∙ then-next _ _ (asks-yes _ (plain 3) c) ∙ asks-yes _ (plain 4) d
 
   pub round-trip : decode (encode p) ≡ Ok p
   round-trip =
       let bs : List ℕ = encode p in
-      let rest : ℕ → List Duct → Result PlanSpec Refusal = λ n ds. asPlan n (admit n [] ds) in
+      let rest : ℕ → List Duct → Result PlanSpec Told = λ n ds. asPlan n (admit n [] ds) in
       ap (λ v. andThen v (rest (two bs 0) (ductsIn bs (two bs 2)))) sizes-back
       ∙ ap (λ n. rest n (ductsIn bs (two bs 2))) pits-back
       ∙ ap (rest (p .pits)) (ap (ductsIn bs) count-back ∙ list-back)

@@ -1,4 +1,4 @@
--- What a reader has yet to give, and what one step of it does. Assumes nothing.
+-- What a reader has yet to give, and what one step of it does.
 use mathlib.Core.List.{List, [], _∷_}
 use mathlib.Core.Path.{_≡_}
 use Prim.Native.Nat.{_-_}

@@ -1,4 +1,4 @@
--- Numbers in bytes, the low byte first. Assumes nothing.
+-- Numbers in bytes, the low byte first.
 use mathlib.Core.List.{List, [], _∷_, _++_}
 use Prim.Native.Nat.{ℕ, _+_, _*_, _/_, _%_}
 use lib.ListN.{length, getD, take, drop}

@@ -1,6 +1,8 @@
 ghost use mathlib.Core.Path.{_≡_};
-ghost use Rattle.plan.specs.Plans.{planOf, planned};
-ghost use Rattle.planfile.specs.Files.{Judged};
+ghost use Rattle.std.specs.Results.{Cases};
+ghost use Rattle.plan.specs.Plans.{planOf, heardPlan};
+ghost use Rattle.plan.specs.Refusals.{heard};
+ghost use Rattle.planfile.specs.Files.{FileOf, NoFile};
 ghost use Rattle.planfile.specs.Loading.{checkSizes, decode, loadOn};
 use crate::steps;
 use crate::words;
@@ -12,7 +14,7 @@ use plan::refusals::Refusal;
 
 // Questions 1 to 4 on the file as a whole: 4 bytes, the pit count, the duct count, the exact size.
 fn check_sizes(bytes: &[u8]) -> Result<(), Refusal>
-    ensures { λ r. ⌜ r ≡ checkSizes (now (bytes .entry)) ⌝ }
+    ensures { λ r. ⌜ heard r ≡ checkSizes (now (bytes .entry)) ⌝ }
 {
     if bytes.len() < 4 {
         return Err(Refusal::ShortFile);
@@ -33,7 +35,7 @@ fn check_sizes(bytes: &[u8]) -> Result<(), Refusal>
 
 // The plan of a file, or the first rule that the file breaks: questions 1 to 4, then 5 to 8 on each duct in turn.
 fn parse(bytes: &[u8]) -> Result<Plan, Refusal>
-    ensures { λ r. ⌜ planned r ≡ decode (now (bytes .entry)) ⌝ }
+    ensures { λ r. ⌜ heardPlan r ≡ decode (now (bytes .entry)) ⌝ }
 {
     check_sizes(bytes)?;
     let pits = words::get_two(bytes, 0);
@@ -58,19 +60,21 @@ fn parse(bytes: &[u8]) -> Result<Plan, Refusal>
     Ok(Plan { pits, count, ducts })
 }
 
-// The same, with what it says of the file alone: an accepted file is the file of the plan that it gives, byte by byte,
-// and a refused one is no plan's file.
-pub fn read(bytes: &[u8]) -> Result<Plan, Refusal>
-    ensures answer { λ r. ⌜ planned r ≡ decode (now (bytes .entry)) ⌝ }
-    ensures exact { λ r. ⌜ Judged (planned r) (now (bytes .entry)) ⌝ }
+// The same, with what it says of the file: an accepted one is the file of the plan that it gives, byte by byte, and a
+// refused one is the file of no plan.
+fn read(bytes: &[u8]) -> Result<Plan, Refusal>
+    ensures answer { λ r. ⌜ heardPlan r ≡ decode (now (bytes .entry)) ⌝ }
+    ensures exact { λ r. ⌜ Cases r (λ p. FileOf (planOf p) (now (bytes .entry))) (λ _. NoFile (now (bytes .entry))) ⌝ }
 {
     parse(bytes)
 }
 
-// Loads a file: its plan becomes the plan that stands. A refused file leaves the plan that stood.
+// Loads a file: its plan becomes the plan that stands. A file that breaks a rule is refused with the first that it breaks,
+// and the plan that stood stays. An accepted file is the file of its plan, byte by byte; a refused one is the file of no plan.
 pub fn load(plan: &mut Plan, bytes: &[u8]) -> Result<(), Refusal>
-    ensures answer { λ r. ⌜ r ≡ loadOn (now (bytes .entry)) (planOf (now (plan .entry))) .answer ⌝ }
+    ensures answer { λ r. ⌜ heard r ≡ loadOn (now (bytes .entry)) (planOf (now (plan .entry))) .answer ⌝ }
     ensures stands { λ _. ⌜ planOf (now (plan .exit)) ≡ loadOn (now (bytes .entry)) (planOf (now (plan .entry))) .plan ⌝ }
+    ensures exact { λ r. ⌜ Cases r (λ _. FileOf (planOf (now (plan .exit))) (now (bytes .entry))) (λ _. NoFile (now (bytes .entry))) ⌝ }
 {
     *plan = read(bytes)?;
     Ok(())

@@ -4,7 +4,7 @@ ghost use lib.ListN.{length};
 ghost use denote.Ref.{now};
 
 // Steps through the two arrays of a file together, duct by duct. It borrows the file's bytes.
-#[derive(Clone, Copy)]
+#[derive(Drop)]
 pub(crate) struct Reader<'a> {
     // the first array: the ducts' ends, 4 bytes a duct
     pub(crate) ends: &'a [u8],

@@ -6,6 +6,7 @@ ghost use Rattle.std.specs.Results.{Cases};
 ghost use Rattle.std.specs.declared.result.Result.the-variants.{Ok};
 ghost use Rattle.std.specs.shelf.Lists.{joined};
 ghost use Rattle.plan.specs.Plans.{planOf};
+ghost use Rattle.plan.specs.Refusals.{heard};
 ghost use Rattle.planfile.specs.Format.{fileSize, encode, endsOf, sizesOf};
 ghost use Rattle.planfile.specs.Loading.{decode};
 ghost use Rattle.planfile.specs.Saving.{saveIn, written};
@@ -57,8 +58,8 @@ fn put_file(plan: &Plan, buffer: &mut [u8])
 // Writes the plan's file at the front of the buffer and gives its size. Later bytes stay, and so does every byte of a
 // buffer that is refused. Reading the file back gives the same plan.
 pub fn save(plan: &Plan, buffer: &mut [u8]) -> Result<usize, Refusal>
-    ensures answer { λ r. ⌜ r ≡ saveIn (planOf (now (plan .entry))) (length (now (buffer .entry))) ⌝ }
-    ensures bytes { λ r. ⌜ now (buffer .exit) ≡ written r (encode (planOf (now (plan .entry)))) (now (buffer .entry)) ⌝ }
+    ensures answer { λ r. ⌜ heard r ≡ saveIn (planOf (now (plan .entry))) (length (now (buffer .entry))) ⌝ }
+    ensures bytes { λ r. ⌜ now (buffer .exit) ≡ written (heard r) (encode (planOf (now (plan .entry)))) (now (buffer .entry)) ⌝ }
     ensures back { λ r. ⌜ Cases r (λ n. decode (take n (now (buffer .exit))) ≡ Ok (planOf (now (plan .entry)))) (λ _. Unit {0}) ⌝ }
 {
     if plan.pits < 1 {

@@ -1,12 +1,12 @@
 use mathlib.Core.List.{List, [], _∷_, _++_}
-use mathlib.Core.Path.{_≡_, sym, ap, _∙_}
+use mathlib.Core.Path.{_≡_, ap, _∙_}
 use Prim.Native.Nat.{_<_}
 use native.Mathlib.Omega.{arith}
 use lib.ListN.{length}
 use Rattle.std.proofs.shelf.Lists.{length-set, take-more-set}
 use Rattle.plan.specs.Plans.{PlanSpec, planOf}
 use Rattle.plan.specs.declared.ducts.Duct.{Duct}
-use Rattle.plan.proofs.Editing.{laid-sound, not-taken}
+use Rattle.plan.proofs.Editing.{laid-sound}
 use Rattle.plan.proofs.Ruling.{length-ducts}
 use Rattle.plan.proofs.plans.Plan.with_last.Needs as need
 
@@ -18,7 +18,7 @@ ghost-result c =
     let places = p .places in
     let long = length-ducts p in
     let here : p .count < length (p .ducts) = omega arith in
-    let sound = laid-sound (p .pits) (p .count) 0 (p .ducts) d here (p .sound) (sym (c .pre .own)) (not-taken (planOf p .ducts) 0 d (c .pre .new)) in
+    let sound = laid-sound (p .pits) (p .count) 0 (p .ducts) d here (p .sound) (c .pre .own) (c .pre .new) in
     (p .small, (omega arith, (length-set (p .ducts) (p .count) d ∙ places, (sound, tt))))
 
 pub returns : need.returns

@@ -47,4 +47,4 @@ returns c =
     let p = c .args .self .now in
     let made : List Duct → PlanSpec = λ ds. record { pits = p .pits; ducts = ds } in
     let kept = lifted (c .loop-duct .inv) (c .loop-duct-test .left) (c .ducts-duct-items .ensures .list) in
-    record { plan = ap made kept; one = lifts-one (planOf p) _ (c .args .a) (c .args .b) (p .sound) (c .pre) kept }
+    record { plan = ap made kept; one = lifts-one (planOf p) _ (c .args .a) (c .args .b) (p .sound) (c .pre) kept refl }
