@@ -3,7 +3,8 @@
 
 Run it from the repository's root: python3 tools/make_file_vectors.py
 It writes crates/trials/stdin, which the program trials reads in the gate, and the stdout that it must give: all agree. A trial is
-  the file's size in 4 bytes, the file, the refusal's number in 1 byte (0: accepted), its two figures in 4 bytes each,
+  the file's size in 4 bytes, the file, then the verdict in numbers of 4 bytes: the refusal's number (0: accepted), its two
+  figures, and of an accepted file the pit count, the duct count, and for each duct its ends, its length and its bore,
 all with the low byte first. The seed is fixed, so a second run writes the same bytes.
 """
 import random
@@ -59,6 +60,8 @@ def break_duct(pits, ducts, place):
 
 
 def good():
+    for example in sorted(Path("examples").glob("*.plan")):
+        yield example.read_bytes()
     yield b"\x01\x00\x00\x00"
     yield encode(*plan(MAX_PITS, MAX_DUCTS))
     yield encode(MAX_PITS, [])
@@ -71,6 +74,10 @@ def damaged():
     yield b""
     yield b"\x01\x00\x00"
     yield b"\x00\x00\x00\x00"
+    # several sizes wrong at once: the first question decides
+    yield b"\x00\x00\xff\xff"
+    yield b"\x00\x00\x01\x00"
+    yield b"\x01\x02\xff\xff\x00"
     yield (MAX_PITS + 1).to_bytes(2, "little") + b"\x00\x00"
     yield b"\x02\x00" + (MAX_DUCTS + 1).to_bytes(2, "little")
     yield b"\x02\x00" + (MAX_DUCTS + 1).to_bytes(2, "little") + bytes(10 * (MAX_DUCTS + 1))
@@ -100,13 +107,13 @@ def main():
     verdicts = Counter()
     for data in [*good(), *damaged()]:
         try:
-            decode(data)
-            verdict = (0, 0, 0)
+            pits, ducts = decode(data)
+            verdict = [0, 0, 0, pits, len(ducts), *(number for duct in ducts for number in duct)]
         except Refused as r:
-            verdict = (r.number, r.first, r.second)
+            verdict = [r.number, r.first, r.second]
         verdicts[verdict[0]] += 1
-        out += len(data).to_bytes(4, "little") + data + verdict[0].to_bytes(1, "little")
-        out += verdict[1].to_bytes(4, "little") + verdict[2].to_bytes(4, "little")
+        out += len(data).to_bytes(4, "little") + data
+        out += b"".join(number.to_bytes(4, "little") for number in verdict)
     total = sum(verdicts.values())
     Path("crates/trials/stdin").write_bytes(out)
     Path("crates/trials/stdout").write_text(f"files: {total} tried, {total} agree\n")
