@@ -1,10 +1,10 @@
 -- The questions on a file's ducts, one duct on.
 use mathlib.Core.Path.{_≡_, refl, sym, ap, _∙_}
 use mathlib.Core.List.{List, [], _∷_, _++_}
-use mathlib.Core.Bool.{Bool, true, false, not, _&&_}
-use Prim.Native.Nat.{ℕ, _+_, _-_, _*_, _<_, _≤_}
+use mathlib.Core.Bool.{true, false, not, _&&_}
+use Prim.Native.Nat.{ℕ, _+_, _-_, _<_, _≤_}
 use native.Mathlib.Omega.{arith}
-use lib.Dec.{eqb, leb}
+use lib.Dec.{leb}
 use lib.ListN.{length, take, drop, getD, set}
 use Rattle.std.specs.Options.{isSome}
 use Rattle.std.specs.declared.result.Result.{Result}
@@ -78,10 +78,6 @@ module _ {bs : List ℕ} {pits count : ℕ} {ds left : List Duct} (inv : Admitti
   long : length (take count ds) ≡ count
   long = length-take-le count ds room
 
-  -- no duct is left
-  pub admit-ends : left ≡ [] → Ok (record { pits = pits; ducts = take count ds }) ≡ decode bs
-  admit-ends e = sym (ap (λ xs. asPlan pits (admit pits (take count ds) xs)) e) ∙ inv .answer
-
   -- d is the next duct
   module _ {d : Duct} {rest : List Duct} (next : left ≡ d ∷ rest) where
     after : Verdict → Verdict → Result PlanSpec Told
@@ -94,10 +90,6 @@ module _ {bs : List ℕ} {pits count : ℕ} {ds left : List Duct} (inv : Admitti
         sym (ap (λ k. after (checkDuct pits k d) (checkRepeat (take count ds) k d)) long)
         ∙ sym (ap (λ xs. asPlan pits (admit pits (take count ds) xs)) next)
         ∙ inv .answer
-
-    pub admit-refuses : (e : Told) → Err e ≡ checkDuct pits count d → Err e ≡ decode bs
-    unfolding after
-    admit-refuses e bad = ap (λ v. after v (checkRepeat (take count ds) count d)) bad ∙ asked
 
     pub admit-repeats : Ok tt ≡ checkDuct pits count d → isSome (between (take count ds) (d .first) (d .second)) ≡ true → Err (placed 8 count) ≡ decode bs
     unfolding after

@@ -1,19 +1,18 @@
 -- What is saved reads back as it was.
 use mathlib.Core.Path.{_≡_, refl, sym, ap, _∙_}
 use mathlib.Core.List.{List, [], _∷_, _++_}
-use mathlib.Core.Bool.{Bool, true, false, not, _&&_}
-use Prim.Native.Nat.{ℕ, suc, _+_, _*_, _-_, _/_, _%_, _<_, _≤_}
+use mathlib.Core.Bool.{true, not, _&&_}
+use Prim.Native.Nat.{ℕ, _+_, _*_, _-_, _/_, _%_, _<_, _≤_}
 use native.Mathlib.Omega.{arith}
 use lib.Dec.{eqb, leb}
-use lib.ListN.{length, take, drop, getD}
-use Rattle.std.specs.Options.{isSome}
+use lib.ListN.{length, take, drop}
 use Rattle.std.specs.shelf.Lists.{joined}
 use Rattle.std.specs.declared.result.Result.{Result}
-use Rattle.std.specs.declared.result.Result.the-variants.{Ok, Err}
+use Rattle.std.specs.declared.result.Result.the-variants.{Ok}
 use Rattle.std.proofs.shelf.Lists.{take-at, drop-at, append-assoc, append-nil, getD-drop, drop-drop}
 use Rattle.std.proofs.shelf.Tests.{le-leb, eq-eqb, and-from}
-use Rattle.plan.specs.Ducts.{between, ductKeeps, ductsKeep}
-use Rattle.plan.specs.Edits.{Verdict, asks, andThen, checkDuct, checkRepeat}
+use Rattle.plan.specs.Ducts.{ductsKeep}
+use Rattle.plan.specs.Edits.{asks, andThen}
 use Rattle.plan.specs.Plans.{PlanSpec}
 use Rattle.plan.specs.Refusals.{Told, plain, placed}
 use Rattle.plan.specs.Rules.{DuctRules}
@@ -24,8 +23,8 @@ use Rattle.plan.proofs.Keeping.{keep-front, keep-middle}
 use Rattle.plan.proofs.Ruling.{own-rules}
 use Rattle.planfile.specs.Format.{fileSize, endsOf, sizesOf, encode, ductAt, ductsFrom, ductsIn}
 use Rattle.planfile.specs.Loading.{checkSizes, admit, asPlan, decode}
-use Rattle.planfile.specs.Words.{two, four, twoOf, fourOf}
-use Rattle.planfile.proofs.Arrays.{length-ends, length-sizes, length-encode}
+use Rattle.planfile.specs.Words.{two, four, twoOf}
+use Rattle.planfile.proofs.Arrays.{length-ends, length-encode}
 
 two-back : (n : ℕ) → n < 65536 → n % 256 + n / 256 % 256 * 256 ≡ n
 two-back n h = omega arith

@@ -1,6 +1,6 @@
 -- The file of a plan: pit count and duct count, 2 bytes each; the first array, of the ducts' ends, 4 bytes a duct;
 -- the second array, of their sizes, 6 bytes a duct.
-use mathlib.Core.List.{List, [], _∷_, _++_, map}
+use mathlib.Core.List.{List, _++_, map}
 use Prim.Native.Nat.{ℕ, _+_, _*_}
 use lib.ListN.{length, take, drop}
 use Rattle.std.specs.Iters.{counting}

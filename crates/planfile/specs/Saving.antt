@@ -8,7 +8,7 @@ use Rattle.std.specs.declared.result.Result.the-variants.{Ok, Err}
 use Rattle.plan.specs.Edits.{asks, andThen}
 use Rattle.plan.specs.Plans.{PlanSpec}
 use Rattle.plan.specs.Refusals.{Told, plain}
-use Rattle.planfile.specs.Format.{fileSize, encode}
+use Rattle.planfile.specs.Format.{fileSize}
 
 -- questions 14 and 15 of a save into a buffer of so many bytes, then the file's size
 abbrev pub saveIn : PlanSpec → ℕ → Result ℕ Told

@@ -1,5 +1,5 @@
 use borrow.Author.Needs.{needs}
-use mathlib.Core.Path.{_≡_, refl, sym, ap, _∙_}
+use mathlib.Core.Path.{refl, sym, _∙_}
 use Rattle.planfile.specs.Reading.{toCome}
 use Rattle.plan.proofs.Finding.{between-on}
 use Rattle.planfile.proofs.Admitting.{admit-begins, admit-repeats, admit-more, no-repeat, some-repeat}

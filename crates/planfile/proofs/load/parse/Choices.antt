@@ -1,6 +1,6 @@
 use mathlib.Core.Bool.{false}
 use mathlib.Core.Path.{_≡_}
-use lib.ListN.{length, take, drop}
+use lib.ListN.{length, drop}
 use Rattle.plan.specs.Ducts.{between}
 use Rattle.planfile.specs.Reading.{toCome}
 use Rattle.planfile.proofs.Admitting.{Admitting}

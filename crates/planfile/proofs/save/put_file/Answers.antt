@@ -1,5 +1,4 @@
-use mathlib.Core.Path.{_≡_, sym, ap, _∙_}
-use lib.ListN.{length}
+use mathlib.Core.Path.{sym}
 use Rattle.plan.proofs.Ruling.{length-ducts}
 use Rattle.plan.specs.Plans.{planOf}
 use Rattle.planfile.proofs.Saved.{save-writes, save-back}

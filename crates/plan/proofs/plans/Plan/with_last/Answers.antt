@@ -1,10 +1,10 @@
-use mathlib.Core.List.{List, [], _∷_, _++_}
-use mathlib.Core.Path.{_≡_, ap, _∙_}
+use mathlib.Core.List.{List}
+use mathlib.Core.Path.{ap, _∙_}
 use Prim.Native.Nat.{_<_}
 use native.Mathlib.Omega.{arith}
 use lib.ListN.{length}
 use Rattle.std.proofs.shelf.Lists.{length-set, take-more-set}
-use Rattle.plan.specs.Plans.{PlanSpec, planOf}
+use Rattle.plan.specs.Plans.{PlanSpec}
 use Rattle.plan.specs.declared.ducts.Duct.{Duct}
 use Rattle.plan.proofs.Editing.{laid-sound}
 use Rattle.plan.proofs.Ruling.{length-ducts}
