@@ -29,7 +29,7 @@ def ring(n):
 
 
 def district():
-    """512 pits: a broken grid of 12 by 16 streets, with closes of houses hung on its crossings."""
+    """512 pits: a grid of 12 by 16 crossings with 16 streets left out, and trees of house pits joined to the crossings."""
     rng = random.Random(20261117)
     rows, columns, pits = 12, 16, 512
     number = list(range(pits))

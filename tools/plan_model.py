@@ -1,6 +1,6 @@
-"""An independent model of plans and their files, written from docs/RULES.md and from nothing else.
+"""An independent model of plans, their files and what plancheck prints, written from docs/RULES.md.
 
-It shares no code with the planner, so what it says can be held against what the planner says.
+It shares no code with the planner, so that the two can be compared.
 A plan is a pair (pits, ducts), a duct a tuple (first, second, length, bore).
 """
 

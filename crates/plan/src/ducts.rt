@@ -9,3 +9,13 @@ pub struct Duct {
     // the inner width, in millimetres
     pub bore: u16,
 }
+
+impl Duct {
+    // What stands in a place of an array that holds no duct.
+    pub const UNUSED: Duct = Duct {
+        first: 0,
+        second: 0,
+        length: 0,
+        bore: 0,
+    };
+}

@@ -21,7 +21,7 @@ pub enum Refusal {
     Bore { place: u16 },
     // 8: an earlier duct joins the same two pits
     Repeat { place: u16 },
-    // 9: the plan does not fit a finder, so many layers down, with so many pits
+    // 9: a plan of `pits` pits does not fit the finder `depth` layers down
     Unfit { depth: u32, pits: u16 },
     // 10: no duct joins the two pits
     NoDuct,
@@ -96,23 +96,30 @@ impl Refusal {
     pub fn rule(self) -> &'static str
         ensures { λ r. ⌜ now r ≡ inWords self ⌝ }
     {
-        match self {
-            Refusal::ShortFile => "a plan file has at least 4 bytes",
-            Refusal::PitCount => "a plan has 1 to 512 pits",
-            Refusal::DuctCount => "a plan has at most 1024 ducts",
-            Refusal::FileSize => "a plan file has exactly 4 bytes and 10 more for each duct",
-            Refusal::Ends { .. } =>
-                "a duct's first end is below its second, and both are pits of the plan",
-            Refusal::Length { .. } => "a duct is 1 to 1000000 centimetres long",
-            Refusal::Bore { .. } => "a duct's bore is 10 to 300 millimetres",
-            Refusal::Repeat { .. } => "no two ducts join the same two pits",
-            Refusal::Unfit { .. } => "the plan's trunk fits the finder",
-            Refusal::NoDuct => "there is a duct between the two pits",
-            Refusal::OffPlan => "every pit that is named is on the plan",
-            Refusal::ShortList => "the list has a place for each pit of the plan",
-            Refusal::NoWay => "there is a way between the two pits",
-            Refusal::BlankPlan => "the plan has pits",
-            Refusal::ShortBuffer => "the buffer is long enough",
-        }
+        words(self)
+    }
+}
+
+// The words for each refusal.
+fn words(refusal: Refusal) -> &'static str
+    ensures { λ r. ⌜ now r ≡ inWords refusal ⌝ }
+{
+    match refusal {
+        Refusal::ShortFile => "a plan file has at least 4 bytes",
+        Refusal::PitCount => "a plan has 1 to 512 pits",
+        Refusal::DuctCount => "a plan has at most 1024 ducts",
+        Refusal::FileSize => "a plan file has exactly 4 bytes and 10 more for each duct",
+        Refusal::Ends { .. } =>
+            "a duct's first end is below its second, and both are pits of the plan",
+        Refusal::Length { .. } => "a duct is 1 to 1000000 centimetres long",
+        Refusal::Bore { .. } => "a duct's bore is 10 to 300 millimetres",
+        Refusal::Repeat { .. } => "no two ducts join the same two pits",
+        Refusal::Unfit { .. } => "the plan's trunk fits the finder",
+        Refusal::NoDuct => "there is a duct between the two pits",
+        Refusal::OffPlan => "every pit that is named is on the plan",
+        Refusal::ShortList => "the list has a place for each pit of the plan",
+        Refusal::NoWay => "there is a way between the two pits",
+        Refusal::BlankPlan => "the plan has pits",
+        Refusal::ShortBuffer => "the buffer is long enough",
     }
 }

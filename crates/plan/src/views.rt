@@ -6,14 +6,6 @@ use crate::ducts::Duct;
 use crate::limits::MAX_DUCTS;
 use crate::plans::Plan;
 
-// What stands in a place of the array that holds no duct of the plan.
-pub const UNUSED: Duct = Duct {
-    first: 0,
-    second: 0,
-    length: 0,
-    bore: 0,
-};
-
 impl Plan {
     // The blank plan: no pits, no ducts.
     pub fn blank() -> Plan
@@ -22,7 +14,7 @@ impl Plan {
         Plan {
             pits: 0,
             count: 0,
-            ducts: [UNUSED; MAX_DUCTS],
+            ducts: [Duct::UNUSED; MAX_DUCTS],
         }
     }
 

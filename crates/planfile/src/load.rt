@@ -40,7 +40,7 @@ fn parse(bytes: &[u8]) -> Result<Plan, Refusal>
     check_sizes(bytes)?;
     let pits = words::get_two(bytes, 0);
     let mut reader = steps::open(bytes, words::get_two(bytes, 2) as usize);
-    let mut ducts = [plan::views::UNUSED; MAX_DUCTS];
+    let mut ducts = [Duct::UNUSED; MAX_DUCTS];
     let mut count: u16 = 0;
     let mut repeated = false;
     'ducts: while let Some(duct) = reader.next() {
@@ -60,8 +60,8 @@ fn parse(bytes: &[u8]) -> Result<Plan, Refusal>
     Ok(Plan { pits, count, ducts })
 }
 
-// The same, with what it says of the file: an accepted one is the file of the plan that it gives, byte by byte, and a
-// refused one is the file of no plan.
+// What `parse` gives. An accepted file is the file of the plan that it gives, byte by byte, and a refused one is the file
+// of no plan.
 fn read(bytes: &[u8]) -> Result<Plan, Refusal>
     ensures answer { λ r. ⌜ heardPlan r ≡ decode (now (bytes .entry)) ⌝ }
     ensures exact { λ r. ⌜ Cases r (λ p. FileOf (planOf p) (now (bytes .entry))) (λ _. NoFile (now (bytes .entry))) ⌝ }

@@ -1,6 +1,6 @@
 use mathlib.Core.Path.{sym, ap}
 use Rattle.plan.specs.Refusals.{inWords}
-use Rattle.plan.proofs.refusals.Refusal.rule.Needs as need
+use Rattle.plan.proofs.refusals.words.Needs as need
 
 pub returns-in-ShortFile : need.returns-in-ShortFile
 returns-in-ShortFile c = sym (ap inWords (c .in-ShortFile .is))
