@@ -14,7 +14,7 @@ use std::alloc::Global;
 use std::test::*;
 
 // A duct, in the order in which the rules list it.
-pub fn duct(first: u16, second: u16, length: u32, bore: u16) -> Duct {
+pub(crate) fn duct(first: u16, second: u16, length: u32, bore: u16) -> Duct {
     Duct {
         first,
         second,
@@ -41,7 +41,7 @@ fn file(heap: Global, pits: u16, ducts: &[Duct]) -> Result<Vec<u8>, AllocError> 
 }
 
 // The plan of a file.
-pub fn loaded(bytes: &[u8]) -> Result<Plan, Fail> {
+pub(crate) fn loaded(bytes: &[u8]) -> Result<Plan, Fail> {
     let mut plan = Plan::blank();
     load::load(&mut plan, bytes)?;
     Ok(plan)
