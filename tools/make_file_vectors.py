@@ -1,5 +1,5 @@
 #!/usr/bin/env python3
-"""Writes the file trials: plan files, good and damaged, each with the verdict of the independent model.
+"""Writes the file trials: plan files, good and damaged, each with the verdict of the second model, plan_model.py.
 
 Run it from the repository's root: python3 tools/make_file_vectors.py
 It writes crates/trials/stdin, which the program trials reads in the gate, and the stdout that it must give: all agree. A trial is

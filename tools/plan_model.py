@@ -1,6 +1,7 @@
-"""An independent model of plans, their files and what plancheck prints, written from docs/RULES.md.
+"""A second model of plans, their files and what plancheck prints, in Python.
 
-It shares no code with the planner, so that the two can be compared.
+It follows the rules that docs/RULES.md states and shares no code with the planner, so that the two can be compared.
+The same people wrote both, so it guards against slips, not against a rule that both misread.
 A plan is a pair (pits, ducts), a duct a tuple (first, second, length, bore).
 """
 
