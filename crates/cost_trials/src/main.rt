@@ -1,6 +1,8 @@
 // Compares the search with NetworkX. Standard input has the cost trials: plans with best lengths and bores. Each plan that
 // disagrees is printed, then how many costs agree; the program ends with status 1 unless all do. The examples of searches that
 // the rules name are this crate's tests.
+#![tactic(auto)]
+
 use crate::counts::Count;
 use std::io;
 use std::io::Read;

@@ -1,6 +1,8 @@
 // A measure says what a duct costs, how costs join along a way, and which of two costs is no worse.
 // A cost is a number of 64 bits. A number above a measure's greatest cost is read as the greatest.
 // There are two measures, `Length` and `Bore`; code above is generic and proved from the five laws alone.
+#![tactic(auto)]
+
 ghost use Rattle.std.specs.Prelude.{◌≡◌};
 ghost use Rattle.measure.specs.Laws.{Laws};
 ghost use Rattle.measure.specs.Meaning.{Meaning, read};

@@ -1,6 +1,8 @@
 // Reads a plan file on standard input, and says whether it keeps the rules and what is in it.
 // An accepted file is listed duct by duct, saved again and compared. For a refused one the number, the duct's place and
 // the rule are printed, and the program ends with status 1.
+#![tactic(auto)]
+
 use plan::ducts::Duct;
 use plan::plans::Plan;
 use plan::refusals::Refusal;

@@ -1,6 +1,8 @@
 // Compares load and save with the verdicts of a second model, in Python. Standard input has the trials: for each a plan file,
 // good or damaged, and what the model says of it. Each trial that disagrees is printed, then how many agree; the program
 // ends with status 1 unless all do. The examples that the rules name are this crate's tests.
+#![tactic(auto)]
+
 use plan::ducts::Duct;
 use plan::plans::Plan;
 use plan::refusals::Figures;

@@ -1,6 +1,8 @@
 // Ways through a plan and their costs: what a way is, what the best cost between two pits is, and the theorems about them,
 // for every lawful measure. The definitions are in specs/, the theorems stand on the contract of `way_cost`.
 // Code that finds best ways is in other crates.
+#![tactic(auto)]
+
 ghost use Rattle.std.specs.Prelude.{◌≡◌, ◌<◌, ◌∷◌};
 ghost use Rattle.measure.specs.Meaning.{read};
 ghost use Rattle.plan.specs.Plans.{plan_of};

@@ -3,11 +3,11 @@ use Rattle.planfile.specs.Reading.{to_come}
 use Rattle.plan.proofs.Finding.{between-on}
 use Rattle.planfile.proofs.Admitting.{admit-begins, admit-repeats, admit-more, no_repeat, some-repeat}
 use Rattle.planfile.proofs.load.parse.Goals as goal
-use Rattle.planfile.proofs.load.parse.Goals.{in-Some+in-ok-check+then-loop-earlier-test+then-joins, in-default}
+use Rattle.planfile.proofs.load.parse.Goals.{in-Some+in_ok-check+then-loop-earlier-test+then-joins, in_default}
 
 pub ducts-init : goal.ducts-init
 ducts-init c = (
-  admit-begins c.args.bytes.now c.get-two-pits.result _ _ (to_come c.open-reader.result) c.in-ok-check-sizes.ensures c.get-two-pits.ensures c.get-two.ensures c.open-reader.ensures (search rules),
+  admit-begins c.args.bytes.now c.get_two-pits.result _ _ (to_come c.open-reader.result) c.in_ok-check_sizes.ensures c.get_two-pits.ensures c.get_two.ensures c.open-reader.ensures (search rules),
   refl,
 )
 
@@ -19,7 +19,7 @@ loop-earlier-preserved c = (
 
 pub ducts-preserved : goal.ducts-preserved
 ducts-preserved c = (
-  admit-more c.ducts.invariant.0 c.in-Some.ensures c.in-ok-check.ensures
+  admit-more c.ducts.invariant.0 c.in-Some.ensures c.in_ok-check.ensures
       (no_repeat c.ducts.ducts c.ducts.count c.in-Some.duct.first c.in-Some.duct.second c.loop-earlier.earlier-index c.loop-earlier-test.false c.loop-earlier.invariant.0),
   c.loop-earlier.invariant.1,
 )
@@ -27,8 +27,8 @@ ducts-preserved c = (
 pub returns-then-repeated : goal.returns-then-repeated
 returns-then-repeated c =
     elim c.match-next.branch [
-      | in-Some+in-ok-check+then-loop-earlier-test+then-joins w ↦
-          admit-repeats c.ducts.invariant.0 w.in-Some.ensures w.in-ok-check.ensures
+      | in-Some+in_ok-check+then-loop-earlier-test+then-joins w ↦
+          admit-repeats c.ducts.invariant.0 w.in-Some.ensures w.in_ok-check.ensures
           (some-repeat c.ducts.ducts c.ducts.count w.in-Some.duct.first w.in-Some.duct.second w.loop-earlier.earlier-index _ w.loop-earlier-test.true (sym w.if-joins.ensures) w.loop-earlier.invariant.0)
-      | in-default w ↦ search rules
+      | in_default w ↦ search rules
     ]

@@ -8,6 +8,6 @@ pub returns : goal.returns
 returns c =
     let p = c.args.plan.now in
     let bytes =
-    save_writes (plan_of p) c.args.buffer.now _ _ _ _ p.count _ c.requires.room c.ducts-ducts.ensures.list (sym (length-ducts p)) c.put-two.ensures c.put-two-2.ensures
-    c.put-ends.ensures c.put-sizes.ensures in
-    record { bytes = bytes; back = save_back (plan_of p) c.args.buffer.now c.put-sizes.new.buffer bytes c.requires.some p.small c.ducts-ducts.ensures.rules.few_ducts p.sound }
+    save_writes (plan_of p) c.args.buffer.now _ _ _ _ p.count _ c.requires.room c.ducts-ducts.ensures.list (sym (length-ducts p)) c.put_two.ensures c.put_two-2.ensures
+    c.put_ends.ensures c.put_sizes.ensures in
+    record { bytes = bytes; back = save_back (plan_of p) c.args.buffer.now c.put_sizes.new.buffer bytes c.requires.some p.small c.ducts-ducts.ensures.rules.few_ducts p.sound }

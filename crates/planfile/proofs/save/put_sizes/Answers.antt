@@ -12,7 +12,7 @@ pub loop-i-preserved : goal.loop-i-preserved
 loop-i-preserved c =
     let room = c.requires in
     let here = c.loop-i-test.true in
-    array_more (λ d. four_of d.length) (λ d. two_of d.bore) 6 length-sizes c.args.buffer.now _ _ _ c.args.ducts.now c.args.at c.loop-i.i _ _ here (omega arith) (omega arith) c.loop-i.invariant c.put-four.ensures c.put-two.ensures
+    array_more (λ d. four_of d.length) (λ d. two_of d.bore) 6 length-sizes c.args.buffer.now _ _ _ c.args.ducts.now c.args.at c.loop-i.i _ _ here (omega arith) (omega arith) c.loop-i.invariant c.put_four.ensures c.put_two.ensures
 
 pub returns : goal.returns
 returns c = array_all sizes_of c.args.buffer.now c.loop-i.buffer c.args.ducts.now c.args.at c.loop-i.i c.loop-i-test.false c.loop-i.invariant

@@ -7,12 +7,12 @@ use Rattle.search.proofs.frontier.best_in.Goals as goal
 pub loop-pit-init : goal.loop-pit-init
 loop-pit-init g c = none_picked (read g.M.Measure.means) c.args.marks.now _
 
-pub better-open-best-requires : goal.better-open-best-requires
-better-open-best-requires g c = pick_below (read g.M.Measure.means) (lawful g.M.Measure.means g.met.M.Measure.keeps) c.args.marks.now _ c.loop-pit.pit c.loop-pit.best c.loop-pit.invariant
+pub better_open-best-requires : goal.better_open-best-requires
+better_open-best-requires g c = pick_below (read g.M.Measure.means) (lawful g.M.Measure.means g.met.M.Measure.keeps) c.args.marks.now _ c.loop-pit.pit c.loop-pit.best c.loop-pit.invariant
 
 pub loop-pit-preserved : goal.loop-pit-preserved
 loop-pit-preserved g c =
-    pick_more (read g.M.Measure.means) (lawful g.M.Measure.means g.met.M.Measure.keeps) c.args.marks.now _ c.loop-pit.pit c.loop-pit.best _ (omega arith) c.loop-pit.invariant c.better-open-best.ensures
+    pick_more (read g.M.Measure.means) (lawful g.M.Measure.means g.met.M.Measure.keeps) c.args.marks.now _ c.loop-pit.pit c.loop-pit.best _ (omega arith) c.loop-pit.invariant c.better_open-best.ensures
 
 pub returns : goal.returns
 returns g c = pick_all (read g.M.Measure.means) (lawful g.M.Measure.means g.met.M.Measure.keeps) c.args.marks.now _ c.loop-pit.pit _ c.loop-pit.best (omega arith) c.loop-pit.invariant

@@ -19,11 +19,11 @@ loop-i-preserved c =
     let (l, w) = in_range (plan_of c.args.plan.now) c.ducts-duct-items.ensures.rules c.ducts-duct-items.result.now c.ducts-duct-items.ensures.list c.loop-i.i c.loop-i-test.true in
     index_more c.ducts-duct-items.result.now c.loop-i.i c.loop-i.heads c.put.new.heads c.loop-i.links c.put.new.links l w c.loop-i.invariant c.put.ensures.heads c.put.ensures.links
 
-pub invariant-of-result : goal.invariant-of-result
-invariant-of-result c =
+pub invariant_of-result : goal.invariant_of-result
+invariant_of-result c =
     let p = c.args.plan.now in
     let end = c.loop-i-test.false in
     let most = c.loop-i.auto.i-end in
     let long = ap length c.ducts-duct-items.ensures.list ∙ length-ducts p in
     let x = index_ends c.ducts-duct-items.result.now (plan_of p).ducts c.loop-i.i p.count c.loop-i.heads c.loop-i.links c.ducts-duct-items.ensures.list (omega arith) c.loop-i.invariant in
-    (x.wide, (x.long, (x.heads, (x.links, tt))))
+    record { wide = x.wide; long = x.long; starts = x.heads; chained = x.links }

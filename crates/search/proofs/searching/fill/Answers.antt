@@ -7,8 +7,8 @@ use Rattle.search.proofs.searching.fill.Goals as goal
 
 pub loop-pit-init : goal.loop-pit-init
 loop-pit-init g c = (
-  run_starts g.M.Measure.means g.met.M.Measure.keeps c.args.allowed.now c.args.indexed.now.plan c.args.goal (length c.args.marks.now) c.clear.new.marks c.goal-mark.result
-      c.clear.ensures c.requires.size c.goal-mark.ensures c.requires.below,
+  run_starts g.M.Measure.means g.met.M.Measure.keeps c.args.allowed.now c.args.indexed.now.plan c.args.goal (length c.args.marks.now) c.clear.new.marks c.goal_mark.result
+      c.clear.ensures c.requires.size c.goal_mark.ensures c.requires.below,
   c.update.ensures,
 )
 
@@ -18,11 +18,11 @@ update-requires g c =
     let small = c.args.indexed.now.plan.small in
     let below = c.requires.below in
     let cleared = unseen-size (length c.args.marks.now) c.clear.new.marks c.clear.ensures in
-    let set = length-set c.clear.new.marks c.args.goal c.goal-mark.result in
+    let set = length-set c.clear.new.marks c.args.goal c.goal_mark.result in
     record {
       few = omega arith;
       below = omega arith;
-      others = tracks_set (read g.M.Measure.means) c.clear.new.marks c.args.goal c.goal-mark.result c.new-frontier.result.held
+      others = tracks_set (read g.M.Measure.means) c.clear.new.marks c.args.goal c.goal_mark.result c.new-frontier.result.held
           (tracks_none (read g.M.Measure.means) c.clear.new.marks c.new-frontier.result.held (unseen-closed (length c.args.marks.now) c.clear.new.marks c.clear.ensures) c.new-frontier.ensures);
     }
 
@@ -53,12 +53,12 @@ loop-pit-preserved g c = (
   c.turn.ensures.tracks,
 )
 
-pub returns-then-not-is-allowed : goal.returns-then-not-is-allowed
-returns-then-not-is-allowed g c =
+pub returns-then-not-is_allowed : goal.returns-then-not-is_allowed
+returns-then-not-is_allowed g c =
     run_off g.M.Measure.means g.met.M.Measure.keeps c.args.allowed.now c.args.indexed.now.plan c.args.goal (length c.args.marks.now) c.clear.new.marks
-    c.clear.ensures c.requires.size c.requires.below (sym c.is-allowed.ensures ∙ c.if-not-is-allowed.true)
+    c.clear.ensures c.requires.size c.requires.below (sym c.is_allowed.ensures ∙ c.if-not-is_allowed.true)
 
 pub returns : goal.returns
 returns g c =
     run_ends g.M.Measure.means g.met.M.Measure.keeps c.args.allowed.now c.args.indexed.now.plan c.args.goal c.loop-pit.marks c.loop-pit.invariant.0 c.best.result c.best.ensures
-    c.in-default.is (sym c.is-allowed.ensures ∙ c.if-not-is-allowed.false)
+    c.in_default.is (sym c.is_allowed.ensures ∙ c.if-not-is_allowed.false)

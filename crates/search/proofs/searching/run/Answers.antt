@@ -6,14 +6,19 @@ use Rattle.search.specs.Searched.{Searched}
 use Rattle.search.proofs.Codes.{filled_front, filled_length, filled_later}
 use Rattle.search.proofs.searching.run.Goals as goal
 
-pub invariant-of-table : goal.invariant-of-table
-invariant-of-table g c =
+pub invariant_of-table : goal.invariant_of-table
+invariant_of-table g c =
     let n = c.args.indexed.now.plan.pits in
     let small = c.args.indexed.now.plan.small in
     let old = c.args.table.now.marks in
     let places = c.args.table.now.places in
     let e = filled_front n c.fill.new.marks _ c.fill.ensures.searched.places in
-    (small, (filled_length n old c.fill.new.marks c.fill.ensures.searched.places (omega arith) ∙ places, (subst Linked (sym e) c.fill.ensures.linked, (subst Brief (sym e) c.fill.ensures.brief, tt))))
+    record {
+      few = small;
+      places = filled_length n old c.fill.new.marks c.fill.ensures.searched.places (omega arith) ∙ places;
+      linked = subst Linked (sym e) c.fill.ensures.linked;
+      brief = subst Brief (sym e) c.fill.ensures.brief;
+    }
 
 pub returns : goal.returns
 returns g c =

@@ -39,6 +39,6 @@ pub returns : goal.returns
 returns g c =
     record {
       marks = ducts-end (read g.M.Measure.means) c.args.indexed.now c.args.allowed.now c.args.pit c.args.here c.ducts-ducts.result.now c.ducts-ducts.ensures.list
-          c.args.marks.now c.loop-next.marks c.loop-next.next c.in-default.is c.loop-next.invariant.0;
+          c.args.marks.now c.loop-next.marks c.loop-next.next c.in_default.is c.loop-next.invariant.0;
       tracks = c.loop-next.invariant.1;
     }

@@ -6,8 +6,8 @@ use Rattle.plan.proofs.Editing.{laid_sound}
 use Rattle.plan.proofs.Ruling.{length-ducts}
 use Rattle.plan.proofs.plans.Plan.with_last.Goals as goal
 
-pub invariant-of-result : goal.invariant-of-result
-invariant-of-result c =
+pub invariant_of-result : goal.invariant_of-result
+invariant_of-result c =
     let p = c.args.self.now in
     let d = c.args.duct in
     let room = c.requires.room in
@@ -15,7 +15,7 @@ invariant-of-result c =
     let long = length-ducts p in
     let here : p.count < length p.ducts = omega arith in
     let sound = laid_sound p.pits p.count 0 p.ducts d here p.sound c.requires.own c.requires.new in
-    (p.small, (omega arith, (length-set p.ducts p.count d ∙ places, (sound, tt))))
+    record { small = p.small; few = omega arith; places = length-set p.ducts p.count d ∙ places; sound = sound }
 
 pub returns : goal.returns
 returns c =

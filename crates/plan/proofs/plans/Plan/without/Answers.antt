@@ -27,8 +27,8 @@ loop-duct-preserved c =
       | else-not-joins w ↦ lift_skip _ within inv w.left-is w.ducts-is (sym w.if-not-joins.ensures)
     ]
 
-pub invariant-of-result : goal.invariant-of-result
-invariant-of-result c =
+pub invariant_of-result : goal.invariant_of-result
+invariant_of-result c =
     let p = c.args.self.now in
     let few = p.few in
     let fewer = c.loop-duct.invariant.few in
@@ -36,7 +36,7 @@ invariant-of-result c =
     let long : length c.ducts-duct-items.result.now ≡ p.count = ap length c.ducts-duct-items.ensures.list ∙ length-ducts p in
     let kept = lifted c.loop-duct.invariant c.loop-duct-test.false c.ducts-duct-items.ensures.list in
     let sound = ap (ducts_keep p.pits) kept ∙ keep_others p.pits (plan_of p).ducts c.args.a c.args.b p.sound in
-    (p.small, (omega arith, (c.loop-duct.invariant.places, (sound, tt))))
+    record { small = p.small; few = omega arith; places = c.loop-duct.invariant.places; sound = sound }
 
 pub returns : goal.returns
 returns c =

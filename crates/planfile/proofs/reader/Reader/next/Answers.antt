@@ -8,8 +8,8 @@ returns c =
     let inside = r.inside in
     let left = c.if-self.false in
     let more : r.at < r.count = omega arith in
-    ducts-step r.ends.now r.sizes.now r.at r.count _ _ _ _ more c.get-two-first.ensures c.get-two-second.ensures c.get-four-length.ensures
-    c.get-two-bore.ensures
+    ducts-step r.ends.now r.sizes.now r.at r.count _ _ _ _ more c.get_two-first.ensures c.get_two-second.ensures c.get_four-length.ensures
+    c.get_two-bore.ensures
 
 pub returns-then-self : goal.returns-then-self
 returns-then-self c =

@@ -7,12 +7,12 @@ use Rattle.search.proofs.frontier.Frontier.best.Goals as goal
 pub loop-block-init : goal.loop-block-init
 loop-block-init g c = none_picked (read g.M.Measure.means) c.args.marks.now 0
 
-pub better-of-best-requires : goal.better-of-best-requires
-better-of-best-requires g c = pick_below (read g.M.Measure.means) (lawful g.M.Measure.means g.met.M.Measure.keeps) c.args.marks.now 0 (16 * c.loop-block.block) c.loop-block.best c.loop-block.invariant
+pub better_of-best-requires : goal.better_of-best-requires
+better_of-best-requires g c = pick_below (read g.M.Measure.means) (lawful g.M.Measure.means g.met.M.Measure.keeps) c.args.marks.now 0 (16 * c.loop-block.block) c.loop-block.best c.loop-block.invariant
 
 pub loop-block-preserved : goal.loop-block-preserved
 loop-block-preserved g c =
-    block_more (read g.M.Measure.means) (lawful g.M.Measure.means g.met.M.Measure.keeps) c.args.marks.now c.args.self.now.held c.loop-block.block c.loop-block.best _ c.requires.tracks c.loop-block-test.true c.loop-block.invariant c.better-of-best.ensures
+    block_more (read g.M.Measure.means) (lawful g.M.Measure.means g.met.M.Measure.keeps) c.args.marks.now c.args.self.now.held c.loop-block.block c.loop-block.best _ c.requires.tracks c.loop-block-test.true c.loop-block.invariant c.better_of-best.ensures
 
 pub returns : goal.returns
 returns g c =

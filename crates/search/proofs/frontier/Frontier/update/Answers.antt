@@ -7,4 +7,4 @@ pub returns : goal.returns
 returns g c =
     let few = c.requires.few in
     let below = c.requires.below in
-    tracks_again (read g.M.Measure.means) c.args.marks.now c.args.pit c.args.self.now.held c.best-in.result c.args.self.now.blocks (omega arith) c.requires.others c.best-in.ensures
+    tracks_again (read g.M.Measure.means) c.args.marks.now c.args.pit c.args.self.now.held c.best_in.result c.args.self.now.blocks (omega arith) c.requires.others c.best_in.ensures
