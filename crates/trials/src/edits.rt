@@ -46,7 +46,7 @@ fn lay_asks_in_order(rt: HostRuntime) -> Result<(), Fail> {
     refused(&rt, plan.lay(duct(0, 1)), 8)?;
     refused(&rt, Plan::blank().lay(duct(0, 1)), 5)?;
     let laid = plan.lay(duct(2, 3))?;
-    assert!(rt; laid.ducts() == &[duct(0, 1), duct(1, 2), duct(0, 2), duct(2, 3)]);
+    assert!(rt; laid.ducts() == [duct(0, 1), duct(1, 2), duct(0, 2), duct(2, 3)].as_slice());
     assert_eq!(rt; laid.pit_count(), 4);
     assert_eq!(rt; plan.ducts().len(), 3);
     Ok(())
@@ -60,7 +60,7 @@ fn lift_keeps_the_order(rt: HostRuntime) -> Result<(), Fail> {
     refused(&rt, plan.lift(2, 3), 10)?;
     refused(&rt, Plan::blank().lift(0, 1), 5)?;
     let lifted = plan.lift(1, 2)?;
-    assert!(rt; lifted.ducts() == &[duct(0, 1), duct(0, 2)]);
+    assert!(rt; lifted.ducts() == [duct(0, 1), duct(0, 2)].as_slice());
     assert_eq!(rt; lifted.pit_count(), 4);
     refused(&rt, lifted.lift(1, 2), 10)?;
     assert_eq!(rt; plan.ducts().len(), 3);

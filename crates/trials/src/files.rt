@@ -58,7 +58,7 @@ fn refused(rt: &impl Abort, bytes: &[u8], number: u8, place: u32) -> Result<(), 
         }
     }
     assert_eq!(rt; plan.pit_count(), 2);
-    assert!(rt; plan.ducts() == &[duct(0, 1, 500, 100)]);
+    assert!(rt; plan.ducts() == [duct(0, 1, 500, 100)].as_slice());
     Ok(())
 }
 
@@ -151,8 +151,8 @@ fn save_writes_at_the_front(rt: HostRuntime) -> Result<(), Fail> {
     let plan = loaded(&TWO_PITS)?;
     let mut buffer = [9u8; 16];
     assert_eq!(rt; save::save(&plan, &mut buffer)?, 14);
-    assert!(rt; &buffer[0..14] == &TWO_PITS);
-    assert!(rt; &buffer[14..16] == &[9, 9]);
+    assert!(rt; &buffer[0..14] == TWO_PITS.as_slice());
+    assert!(rt; &buffer[14..16] == [9, 9].as_slice());
     save_refused(&rt, &plan, &mut [9u8; 13], 15)?;
     save_refused(&rt, &Plan::blank(), &mut [9u8; 16], 14)?;
     // a blank plan is refused before a short buffer
