@@ -1,6 +1,6 @@
 -- The beginning of a search and its end.
 use Rattle.std.proofs.Common.{◌≡◌, ℕ, zero, suc, ◌<◌, ◌≤◌, true, false, cond, eqb, ltb, ◌⊎◌, List, [], ◌∷◌, length, set, Some, sym, refl, ap, ◌∙◌, inl, inr, arith, length-set}
-use Rattle.std.specs.List.{AllByRecursion as All}
+use Rattle.std.specs.List.{AllByRecursion}
 use Rattle.std.proofs.ByRecursion.{All-weaker}
 use Rattle.std.proofs.lemmas.List.{get_or-set_same}
 use Rattle.std.proofs.lemmas.Bool.{both_ways, ne_eqb, or_from, and_parts, and_from, ltb-true, eq-eqb}
@@ -71,7 +71,7 @@ module _ (m : Meaning) (laws : Lawful m) (p : PlanSpec) (b : ℕ) (below : b < p
       }
 
 -- no pit of a way comes again, where each is nearer than the one before
-has-not : (ms : List Mark) (v k : ℕ) → (at ms v).hops ≡ k → (ys : List ℕ) → All (λ y. (at ms y).hops < k) ys → has v ys ≡ false
+has-not : (ms : List Mark) (v k : ℕ) → (at ms v).hops ≡ k → (ys : List ℕ) → AllByRecursion (λ y. (at ms y).hops < k) ys → has v ys ≡ false
 has-not ms v k q [] a = refl
 has-not ms v k q (y ∷ ys) a = or_from (eqb v y) (has v ys) (ne_eqb v y (λ e. (let l = ap (λ x. (at ms x).hops) e in omega (arith, a.0)))) (has-not ms v k q ys a.1)
 
@@ -121,7 +121,7 @@ module _ (m : Meaning) (laws : Lawful m) (p : PlanSpec) (b : ℕ) (ms : List Mar
   record Chain (h v : ℕ) : Type 0 where
     leads : Leads p v b (onward ms h v)
     costs : cost_from m p v (onward ms h v) ≡ (at ms v).cost
-    nearer : All (λ y. (at ms y).hops < h) (onward ms h v)
+    nearer : AllByRecursion (λ y. (at ms y).hops < h) (onward ms h v)
     simple : Simple (v ∷ onward ms h v)
 
   chain : (h v : ℕ) → done ms v ≡ true → (at ms v).hops ≡ h → Chain h v
@@ -138,7 +138,7 @@ module _ (m : Meaning) (laws : Lawful m) (p : PlanSpec) (b : ℕ) (ms : List Mar
             let n = l.nearer in
             let hy : (at ms y).hops ≡ h = omega arith in
             let k = chain h y l.next hy in
-            let near : All (λ z. (at ms z).hops < suc h) (y ∷ onward ms h y) = (omega arith, All-weaker (λ z. (at ms z).hops < h) (λ z. (at ms z).hops < suc h) (λ z k. omega arith) (onward ms h y) k.nearer) in
+            let near : AllByRecursion (λ z. (at ms z).hops < suc h) (y ∷ onward ms h y) = (omega arith, All-weaker (λ z. (at ms z).hops < h) (λ z. (at ms z).hops < suc h) (λ z k. omega arith) (onward ms h y) k.nearer) in
             record {
               leads = (below v (seen_done (at ms v).state g), l.duct, k.leads);
               costs = ap (m.join (across m p v y)) k.costs ∙ sym l.costs;

@@ -1,6 +1,6 @@
 -- The ducts between allowed pits, and the ways over them.
 use Rattle.std.proofs.Common.{◌≡◌, ℕ, ◌<◌, Bool, true, false, cond, ◌&&◌, eqb, List, [], ◌∷◌, is_some, Some, None, Option, sym, refl, ◌∙◌, ap₂, inl, inr}
-use Rattle.std.specs.List.{AllByRecursion as All}
+use Rattle.std.specs.List.{AllByRecursion}
 use Rattle.std.proofs.ByRecursion.{All-weaker}
 use Rattle.std.proofs.lemmas.Bool.{both_ways, or_cases, and_parts, eqb-true}
 use Rattle.measure.specs.Meaning.{Meaning}
@@ -69,7 +69,7 @@ module _ (al : List Bool) (p : PlanSpec) where
       let (ra, rx) = and_parts (is_allowed al a) (is_allowed al x) t in (ra, rx, q)
 
   module _ (b : ℕ) where
-    leads-into : (a : ℕ) (ps : List ℕ) → is_allowed al b ≡ true → Leads (restricted al p) a b ps → Leads p a b ps × All (λ x. is_allowed al x ≡ true) (a ∷ ps)
+    leads-into : (a : ℕ) (ps : List ℕ) → is_allowed al b ≡ true → Leads (restricted al p) a b ps → Leads p a b ps × AllByRecursion (λ x. is_allowed al x ≡ true) (a ∷ ps)
     leads-into a [] ok t = (t, (rw t.0 ok, tt))
     leads-into a (x ∷ ps) ok t =
         let (l, j, u) = t in
@@ -77,7 +77,7 @@ module _ (al : List Bool) (p : PlanSpec) where
         let (v, all) = leads-into x ps ok u in
         ((l, q, v), (ra, all))
 
-    leads-back : (a : ℕ) (ps : List ℕ) → Leads p a b ps → All (λ x. is_allowed al x ≡ true) (a ∷ ps) → Leads (restricted al p) a b ps
+    leads-back : (a : ℕ) (ps : List ℕ) → Leads p a b ps → AllByRecursion (λ x. is_allowed al x ≡ true) (a ∷ ps) → Leads (restricted al p) a b ps
     leads-back a [] t r = t
     leads-back a (x ∷ ps) t r =
         let (l, j, u) = t in
@@ -104,7 +104,7 @@ module _ (al : List Bool) (p : PlanSpec) (a b : ℕ) where
   through_costs m (x ∷ ps) w = cost-same al p b m x ps w.1
 
   -- a way through allowed pits ends at one
-  end_allowed : (x : ℕ) (ps : List ℕ) → Leads p x b ps → All (λ y. is_allowed al y ≡ true) (x ∷ ps) → is_allowed al b ≡ true
+  end_allowed : (x : ℕ) (ps : List ℕ) → Leads p x b ps → AllByRecursion (λ y. is_allowed al y ≡ true) (x ∷ ps) → is_allowed al b ≡ true
   end_allowed x [] t r = rw t.0 at r.0
   end_allowed x (y ∷ ps) t r = end_allowed y ps t.2 r.1
 
@@ -113,7 +113,7 @@ module _ (al : List Bool) (p : PlanSpec) (a b : ℕ) where
   through_end (x ∷ ps) w = end_allowed x ps w.0.1 w.1
 
   -- where every pit is allowed, every way is one through allowed pits
-  leads_allowed : AllAllowed al p → (x : ℕ) (ps : List ℕ) → Leads p x b ps → All (λ y. is_allowed al y ≡ true) (x ∷ ps)
+  leads_allowed : AllAllowed al p → (x : ℕ) (ps : List ℕ) → Leads p x b ps → AllByRecursion (λ y. is_allowed al y ≡ true) (x ∷ ps)
   leads_allowed every x ps t = All-weaker (λ y. y < p.pits) (λ y. is_allowed al y ≡ true) every (x ∷ ps) (leads_below p b x ps t)
 
   pub every-through : AllAllowed al p → (ps : List ℕ) → Way p a b ps → WayThrough al p a b ps

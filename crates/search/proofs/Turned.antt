@@ -1,6 +1,6 @@
 -- A whole turn: the best open pit is settled, and its ducts are relaxed.
 use Rattle.std.proofs.Common.{◌≡◌, ℕ, zero, suc, ◌<◌, ◌≤◌, Bool, true, false, cond, ◌&&◌, ◌⊎◌, List, [], ◌∷◌, length, is_some, Some, filter, refl, ◌∙◌, inl, inr, arith, length-set}
-use Rattle.std.specs.List.{AllByRecursion as All}
+use Rattle.std.specs.List.{AllByRecursion}
 use Rattle.std.proofs.lemmas.List.{get_or-set_same}
 use Rattle.std.proofs.lemmas.Bool.{both_ways, cases_eq}
 use Rattle.measure.specs.Meaning.{Meaning}
@@ -114,12 +114,12 @@ module _ (m : Meaning) (laws : Lawful m) (p : PlanSpec) (b : ℕ) (ms : List Mar
       }
 
 -- what holds of each that passes holds of one that does
-kept_at : (P : Duct → Type 0) (t : Duct → Bool) (ds : List Duct) (j : ℕ) → All P (filter t ds) → j < length ds → t (duct_at ds j) ≡ true → P (duct_at ds j)
+kept_at : (P : Duct → Type 0) (t : Duct → Bool) (ds : List Duct) (j : ℕ) → AllByRecursion P (filter t ds) → j < length ds → t (duct_at ds j) ≡ true → P (duct_at ds j)
 kept_at P t [] j a l e = absurd (omega arith)
 kept_at P t (d ∷ ds) zero a l e = (rw e at a).0
 kept_at P t (d ∷ ds) (suc j) a l e = kept_at P t ds j (rest (t d) a) (omega arith) e
   where
-    rest : (s : Bool) → All P (cond s (d ∷ filter t ds) (filter t ds)) → All P (filter t ds)
+    rest : (s : Bool) → AllByRecursion P (cond s (d ∷ filter t ds) (filter t ds)) → AllByRecursion P (filter t ds)
     rest true a = a.1
     rest false a = a
 

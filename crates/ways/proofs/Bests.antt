@@ -1,6 +1,6 @@
 -- The computed costs are the best, and there is one best.
 use Rattle.std.proofs.Common.{◌≡◌, ℕ, suc, ◌≤◌, true, List, ◌∷◌, length, Some, None, Option, refl, ap, ◌∙◌, arith}
-use Rattle.std.specs.List.{AllByRecursion as All}
+use Rattle.std.specs.List.{AllByRecursion}
 use Rattle.std.proofs.ByRecursion.{All-weaker}
 use Rattle.measure.specs.Meaning.{Meaning, NoWorse}
 use Rattle.measure.proofs.Lawful.{Lawful}
@@ -14,7 +14,7 @@ use Rattle.ways.proofs.Cut.{way-leads, leads_below, end_below, of_fits, straight
 use Rattle.ways.proofs.Found.{Found, found, between-swap}
 use Rattle.ways.proofs.Rows.{Reaches, Real, Stands, rounds-real, start-real, length-start, rounds-reaches, start-reaches}
 
-stands : (p : PlanSpec) → ducts_keep p.pits p.ducts ≡ true → All (Stands p) p.ducts
+stands : (p : PlanSpec) → ducts_keep p.pits p.ducts ≡ true → AllByRecursion (Stands p) p.ducts
 stands p h =
     All-weaker (Found p.pits p.ducts) (Stands p)
     (λ d k. (let l = k.rising in let o = k.below in

@@ -1,6 +1,6 @@
 -- A list of different numbers below n has at most n of them.
 use Rattle.std.proofs.Common.{◌≡◌, ℕ, zero, suc, ◌<◌, ◌≤◌, Bool, true, false, cond, eqb, List, [], ◌∷◌, length, refl, arith}
-use Rattle.std.specs.List.{AllByRecursion as All}
+use Rattle.std.specs.List.{AllByRecursion}
 use Rattle.std.proofs.lemmas.Bool.{eqb-true, eqb-false, or_parts, or_from}
 use Rattle.ways.specs.Ways.{has, Simple}
 
@@ -37,15 +37,15 @@ length_without n (x ∷ xs) s = go (eqb n x) refl (length_without n xs s.1)
     go true e ih = rw (without_none n xs (rw (eqb-true n x e) s.0)) (omega arith)
     go false e ih = omega arith
 
-below-without : (n : ℕ) (xs : List ℕ) → All (λ x. x < suc n) xs → All (λ x. x < n) (without n xs)
+below-without : (n : ℕ) (xs : List ℕ) → AllByRecursion (λ x. x < suc n) xs → AllByRecursion (λ x. x < n) (without n xs)
 below-without n [] s = tt
 below-without n (x ∷ xs) s = go (eqb n x) refl (below-without n xs s.1)
   where
-    go : (t : Bool) → eqb n x ≡ t → All (λ x. x < n) (without n xs) → All (λ x. x < n) (cond t (without n xs) (x ∷ without n xs))
+    go : (t : Bool) → eqb n x ≡ t → AllByRecursion (λ x. x < n) (without n xs) → AllByRecursion (λ x. x < n) (cond t (without n xs) (x ∷ without n xs))
     go true e ih = ih
     go false e ih = (let ne = eqb-false n x e in omega arith, ih)
 
-pub pigeonhole : (n : ℕ) (xs : List ℕ) → Simple xs → All (λ x. x < n) xs → length xs ≤ n
+pub pigeonhole : (n : ℕ) (xs : List ℕ) → Simple xs → AllByRecursion (λ x. x < n) xs → length xs ≤ n
 pigeonhole zero [] s a = omega arith
 pigeonhole zero (x ∷ xs) s a = omega arith
 pigeonhole (suc n) xs s a =

@@ -1,6 +1,6 @@
 -- The costs of ways under the laws, and a way cut short where it comes to a pit again.
 use Rattle.std.proofs.Common.{◌≡◌, ℕ, ◌<◌, true, false, eqb, List, [], ◌∷◌, sym, refl, ap, inl, inr}
-use Rattle.std.specs.List.{AllByRecursion as All}
+use Rattle.std.specs.List.{AllByRecursion}
 use Rattle.std.proofs.lemmas.Bool.{eqb-true, or_cases, or_left, or_right, cases_Bool, both_ways}
 use Rattle.measure.specs.Meaning.{Meaning, IsCost, NoWorse}
 use Rattle.measure.proofs.Lawful.{Lawful, reflexive, longer, before-both}
@@ -10,7 +10,7 @@ use Rattle.ways.specs.Ways.{Leads, Way, cost_across, cost_from, cost_of, has, Si
 use Rattle.ways.specs.Theorems.{CutDown}
 
 -- the pits of a way are on the plan
-pub leads_below : (p : PlanSpec) (b a : ℕ) (ps : List ℕ) → Leads p a b ps → All (λ x. x < p.pits) (a ∷ ps)
+pub leads_below : (p : PlanSpec) (b a : ℕ) (ps : List ℕ) → Leads p a b ps → AllByRecursion (λ x. x < p.pits) (a ∷ ps)
 leads_below p b a [] t = (t.1, tt)
 leads_below p b a (x ∷ ps) t = (t.0, leads_below p b x ps t.2)
 

@@ -1,6 +1,6 @@
 -- Of ducts that keep the rules each is the one between its ends, either way round.
 use Rattle.std.proofs.Common.{◌≡◌, ℕ, ◌<◌, Bool, true, false, cond, ◌&&◌, ◌||◌, eqb, List, [], ◌∷◌, is_some, Some, refl, arith}
-use Rattle.std.specs.List.{AllByRecursion as All}
+use Rattle.std.specs.List.{AllByRecursion}
 use Rattle.std.proofs.ByRecursion.{All-weaker}
 use Rattle.std.proofs.lemmas.Bool.{both_ways, cond-true}
 use Rattle.std.proofs.lemmas.Bool.Decides.{nat_tests}
@@ -47,7 +47,7 @@ found_more n d ds l z e f = record { rising = f.rising; below = f.below; there =
         let (p, q) = joins-same d e l f.rising j in
         absurd (both_ways true (rw (p, q, f.there) at z) refl)
 
-pub found : (n : ℕ) (ds : List Duct) → ducts_keep n ds ≡ true → All (Found n ds) ds
+pub found : (n : ℕ) (ds : List Duct) → ducts_keep n ds ≡ true → AllByRecursion (Found n ds) ds
 unfolding between
 found n [] h = tt
 found n (d ∷ ds) h =

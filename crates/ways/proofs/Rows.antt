@@ -1,6 +1,6 @@
 -- What the rows of costs hold: each cost is that of a way, and after enough rounds no way is better.
 use Rattle.std.proofs.Common.{◌≡◌, ℕ, zero, suc, ◌<◌, ◌≤◌, Bool, true, false, cond, ◌⊎◌, List, [], ◌∷◌, length, is_some, Some, None, Option, sym, refl, ap, ◌∙◌, ap₂, inl, inr, arith}
-use Rattle.std.specs.List.{AllByRecursion as All}
+use Rattle.std.specs.List.{AllByRecursion}
 use Rattle.std.proofs.lemmas.Bool.{eqb-true, or_cases, both_ways, and_parts, cond_both, cases_lt}
 use Rattle.measure.specs.Meaning.{Meaning, NoWorse}
 use Rattle.measure.proofs.Lawful.{Lawful, other_way, reflexive, before-both}
@@ -89,12 +89,12 @@ module _ (m : Meaning) (p : PlanSpec) (b : ℕ) where
       let one = improve-real d.second _ row (along-real d.second d.first d (entry row d.first) s.second s.back (r d.first)) r in
       improve-real d.first _ _ (along-real d.first d.second d _ s.first s.there (one d.second)) one
 
-  sweep-real : (ds : List Duct) (row : List (Option ℕ)) → All (Stands p) ds → RealRow m p b row → RealRow m p b (sweep m ds row)
+  sweep-real : (ds : List Duct) (row : List (Option ℕ)) → AllByRecursion (Stands p) ds → RealRow m p b row → RealRow m p b (sweep m ds row)
   unfolding sweep
   sweep-real [] row s r = r
   sweep-real (d ∷ ds) row s r = sweep-real ds (relax_row m d row) s.1 (relax-real d row s.0 r)
 
-  pub rounds-real : (k : ℕ) (row : List (Option ℕ)) → All (Stands p) p.ducts → RealRow m p b row → RealRow m p b (rounds m p.ducts k row)
+  pub rounds-real : (k : ℕ) (row : List (Option ℕ)) → AllByRecursion (Stands p) p.ducts → RealRow m p b row → RealRow m p b (rounds m p.ducts k row)
   unfolding rounds
   rounds-real zero row s r = r
   rounds-real (suc k) row s r = sweep-real p.ducts _ s (rounds-real k row s r)
@@ -184,7 +184,7 @@ module _ (m : Meaning) (laws : Lawful m) where
         | inr e ↦ (let (k, l) = and_parts _ _ e in rw (← (eqb-true d.second a l)) (relax-second d row c (rw n at s.second) (rw (eqb-true d.first x k) h)))
       ]
 
-  sweep-reaches : (p : PlanSpec) (ds : List Duct) (row : List (Option ℕ)) (a x c : ℕ) → All (Stands p) ds → p.pits ≡ length row → Reaches m (entry row x) c
+  sweep-reaches : (p : PlanSpec) (ds : List Duct) (row : List (Option ℕ)) (a x c : ℕ) → AllByRecursion (Stands p) ds → p.pits ≡ length row → Reaches m (entry row x) c
       → is_some (between ds a x) ≡ true → Reaches m (entry (sweep m ds row) a) (m.join (cost_across m (between ds a x)) c)
   unfolding sweep between
   sweep-reaches p [] row a x c s n h z = absurd (both_ways false refl z)
@@ -196,7 +196,7 @@ module _ (m : Meaning) (laws : Lawful m) where
       go false e ih z = ih z
 
   -- k rounds see every way of at most k ducts
-  pub rounds-reaches : (p : PlanSpec) (b k : ℕ) (row : List (Option ℕ)) (a : ℕ) (ps : List ℕ) → All (Stands p) p.ducts → p.pits ≡ length row → Reaches m (entry row b) m.still
+  pub rounds-reaches : (p : PlanSpec) (b k : ℕ) (row : List (Option ℕ)) (a : ℕ) (ps : List ℕ) → AllByRecursion (Stands p) p.ducts → p.pits ≡ length row → Reaches m (entry row b) m.still
       → length ps ≤ k → Leads p a b ps → Reaches m (entry (rounds m p.ducts k row) a) (cost_from m p a ps)
   unfolding rounds
   rounds-reaches p b k row a [] s n h l t = rw t.0 (rounds-keeps p.ducts k row b m.still h)

@@ -1,6 +1,6 @@
 -- Costs in small plans that were worked out by hand, each with what the definition of the best cost must give.
 use Rattle.std.specs.Prelude.{◌≡◌, ℕ, true, List, [], ◌∷◌, Some, None, Option}
-use Rattle.std.specs.List.{AllByRecursion as All}
+use Rattle.std.specs.List.{AllByRecursion}
 use Rattle.measure.specs.Meaning.{Meaning, read}
 use Rattle.measure.specs.Measures.{by_length, by_bore}
 use Rattle.plan.specs.declared.ducts.Duct.{Duct}
@@ -43,7 +43,7 @@ cost_cases =
 
 pub record Worked : Type 0 where
   -- the definition gives each of them
-  pub costs : All (λ k. best_cost (read k.measure) k.plan k.from k.to ≡ k.best) cost_cases
+  pub costs : AllByRecursion (λ k. best_cost (read k.measure) k.plan k.from k.to ≡ k.best) cost_cases
   -- the length of 1,850 from 8 to 0 is that of the way by 8, 3, 2, 1, 0
   pub way : cost_of_pits (read by_length) nine_pits (8 ∷ (3 ∷ (2 ∷ (1 ∷ (0 ∷ []))))) ≡ Some 1850
   -- the plans keep the rules
