@@ -1,13 +1,16 @@
 -- A plan with a duct laid last, and one with a duct lifted.
-use Rattle.std.proofs.Common.{◌≡◌, ℕ, ◌+◌, ◌<◌, ◌≤◌, Bool, true, false, cond, not, ◌&&◌, List, [], ◌∷◌, ◌++◌, length, get_or, take, set, is_some, Ok, sym, refl, ap, ◌∙◌, arith}
-use Rattle.std.proofs.lemmas.List.{take_more, take_more_set, take_all, append-nil, length-set}
+use Rattle.std.proofs.Common.{◌≡◌, ℕ, ◌+◌, ◌<◌, ◌≤◌, Bool, true, false, cond, not, ◌&&◌, List, [], ◌∷◌, ◌++◌, length, get_or, take, drop, set, is_some, Ok, sym, refl, ap, ◌∙◌, arith}
+use Rattle.std.proofs.lemmas.List.{take_more, take_more_set, take_all, append-nil, take-append-drop, length-append, length-take-le}
 use Rattle.std.proofs.lemmas.Bool.{and_parts, and_from, not-true}
 use Rattle.plan.specs.declared.ducts.Duct.{Duct}
 use Rattle.plan.specs.Ducts.{joins, between, others, ends_keep, length_keeps, bore_keeps, duct_keeps, ducts_keep}
-use Rattle.plan.specs.Edits.{asks, check_ends, check_duct, check_repeat}
+use Rattle.plan.specs.Edits.{asks, check_ends, check_duct, check_repeat, with_last, without}
 use Rattle.plan.specs.Refusals.{placed}
 use Rattle.plan.proofs.Asking.{asked_yes, asks-yes, both_yes, then_next}
-use Rattle.plan.proofs.Keeping.{keep_push}
+use Rattle.plan.specs.Plans.{PlanSpec}
+use Rattle.plan.specs.Rules.{Rules}
+use Rattle.plan.proofs.Keeping.{keep_push, keep_first, keep_others}
+use Rattle.plan.proofs.Ruling.{keep-rules, rules-keep}
 
 pub checked_keeps : (pits place : ℕ) (d : Duct) → check_duct pits place d ≡ Ok tt → duct_keeps pits d ≡ true
 checked_keeps pits place d h =
@@ -33,11 +36,13 @@ pub laid_sound :
 laid_sound pits n place ds d h keep own new =
     ap (ducts_keep pits) (take_more_set ds n d h) ∙ keep_push pits (take n ds) d keep (checked_keeps pits place d own) (not_taken (take n ds) place d new)
 
--- the first n places of xs hold those of the first i items that do not join a and b
-pub record Lifting (n : ℕ) (xs : List Duct) (i : ℕ) (items : List Duct) (a b : ℕ) : Type 0 where
-  pub few : n ≤ i
-  pub places : length xs ≡ 1024
-  pub kept : take n xs ≡ others (take i items) a b
+-- a plan with a checked duct laid last keeps the rules
+pub laid-rules :
+    (p : PlanSpec) (d : Duct) → Rules p → length p.ducts < 1024 → check_duct p.pits 0 d ≡ Ok tt → check_repeat p.ducts 0 d ≡ Ok tt → Rules (with_last p d)
+laid-rules p d r room own new =
+    let long = length-append p.ducts (d ∷ []) in
+    keep-rules (with_last p d) r.few_pits (omega arith)
+    (keep_push p.pits p.ducts d (rules-keep p r) (checked_keeps p.pits 0 d own) (not_taken p.ducts 0 d new))
 
 others-push : (ds : List Duct) (d : Duct) (a b : ℕ) → others (ds ++ d ∷ []) a b ≡ others ds a b ++ cond (joins d a b) [] (d ∷ [])
 unfolding others
@@ -46,36 +51,48 @@ others-push (e ∷ es) d a b =
     elim (joins e a b) as (λ t. cond t (others (es ++ d ∷ []) a b) (e ∷ others (es ++ d ∷ []) a b) ≡ cond t (others es a b) (e ∷ others es a b) ++ cond (joins d a b) [] (d ∷ []))
     [ true ↦ others-push es d a b | false ↦ ap (λ xs. e ∷ xs) (others-push es d a b) ]
 
-module _ {items : List Duct} {a b i n : ℕ} {xs : List Duct} (z : Duct) (within : i < length items) (inv : Lifting n xs i items a b) where
-  step : (t : Bool) → joins (get_or items i z) a b ≡ t → others (take (i + 1) items) a b ≡ take n xs ++ cond t [] (get_or items i z ∷ [])
+length-others : (ds : List Duct) (a b : ℕ) → length (others ds a b) ≤ length ds
+unfolding others
+length-others [] a b = omega arith
+length-others (d ∷ ds) a b =
+    let on = length-others ds a b in
+    elim (joins d a b) as (λ t. length (cond t (others ds a b) (d ∷ others ds a b)) ≤ length (d ∷ ds)) [ true ↦ omega arith | false ↦ omega arith ]
+
+-- the first i of the ducts, without those that join a and b
+abbrev pub lifted : PlanSpec → ℕ → ℕ → ℕ → PlanSpec
+lifted p a b i = without (record p { ducts = take i p.ducts }) a b
+
+pub lifted-all : (p : PlanSpec) (a b i : ℕ) → length p.ducts ≤ i → lifted p a b i ≡ without p a b
+lifted-all p a b i h = ap (λ ds. without (record p { ducts = ds }) a b) (take_all i p.ducts h)
+
+module _ (p : PlanSpec) (a b i : ℕ) (z : Duct) (within : i < length p.ducts) {d : Duct} (is : d ≡ get_or p.ducts i z) where
+  step : (t : Bool) → joins d a b ≡ t → others (take (i + 1) p.ducts) a b ≡ others (take i p.ducts) a b ++ cond t [] (d ∷ [])
   step t e =
-      ap (λ ds. others ds a b) (take_more items i z within)
-      ∙ others-push (take i items) (get_or items i z) a b
-      ∙ ap (λ ys. ys ++ cond (joins (get_or items i z) a b) [] (get_or items i z ∷ [])) (sym inv.kept)
-      ∙ ap (λ u. take n xs ++ cond u [] (get_or items i z ∷ [])) e
+      ap (λ ds. others ds a b) (take_more p.ducts i z within ∙ ap (λ x. take i p.ducts ++ x ∷ []) (sym is))
+      ∙ others-push (take i p.ducts) d a b
+      ∙ ap (λ u. others (take i p.ducts) a b ++ cond u [] (d ∷ [])) e
 
-  -- the item joins the two pits, and is left out
-  pub lift_skip : {m : ℕ} {ys : List Duct} → m ≡ n → ys ≡ xs → joins (get_or items i z) a b ≡ true → Lifting m ys (i + 1) items a b
-  lift_skip {m} {ys} e f j =
-      let few = inv.few in
-      record {
-        few = omega arith;
-        places = ap length f ∙ inv.places;
-        kept = ap (λ k. take k ys) e ∙ ap (take n) f ∙ sym (step true j ∙ append-nil (take n xs));
-      }
+  -- the duct joins the two pits, and is left out
+  pub lift-skip : joins d a b ≡ true → lifted p a b i ≡ lifted p a b (i + 1)
+  lift-skip e = ap (λ ds. record p { ducts = ds }) (sym (step true e ∙ append-nil (others (take i p.ducts) a b)))
 
-  -- the item joins other pits, and is kept
-  pub lift_keep : {m : ℕ} {ys : List Duct} → m ≡ n + 1 → ys ≡ set xs n (get_or items i z) → n < 1024 → joins (get_or items i z) a b ≡ false → Lifting m ys (i + 1) items a b
-  lift_keep {m} {ys} e f h j =
-      let few = inv.few in
-      let places = inv.places in
-      let room : n < length xs = omega arith in
-      record {
-        few = omega arith;
-        places = ap length f ∙ length-set xs n (get_or items i z) ∙ places;
-        kept = ap (λ k. take k ys) e ∙ ap (take (n + 1)) f ∙ take_more_set xs n (get_or items i z) room ∙ sym (step false j);
-      }
+  -- the duct joins other pits, and is laid
+  pub lift-keep : joins d a b ≡ false → with_last (lifted p a b i) d ≡ lifted p a b (i + 1)
+  lift-keep e = ap (λ ds. record p { ducts = ds }) (sym (step false e))
 
--- after the last item
-pub lifted : {n i a b : ℕ} {xs items ds : List Duct} → Lifting n xs i items a b → length items ≤ i → items ≡ ds → take n xs ≡ others ds a b
-lifted {n} {i} {a} {b} {xs} {items} {ds} inv h e = inv.kept ∙ ap (λ ys. others ys a b) (take_all i items h ∙ e)
+-- a part of a plan keeps the rules
+pub lifted-rules : (p : PlanSpec) (a b i : ℕ) → Rules p → Rules (lifted p a b i)
+lifted-rules p a b i r =
+    let few = r.few_ducts in
+    let front = length-others (take i p.ducts) a b in
+    let cut = length-append (take i p.ducts) (drop i p.ducts) in
+    let whole = ap length (take-append-drop i p.ducts) in
+    keep-rules (lifted p a b i) r.few_pits (omega arith)
+    (keep_others p.pits (take i p.ducts) a b (keep_first p.pits (take i p.ducts) (drop i p.ducts) (ap (ducts_keep p.pits) (take-append-drop i p.ducts) ∙ rules-keep p r)))
+
+pub lifted-room : (p : PlanSpec) (a b i : ℕ) → Rules p → i < length p.ducts → length (lifted p a b i).ducts < 1024
+lifted-room p a b i r h =
+    let few = r.few_ducts in
+    let front = length-others (take i p.ducts) a b in
+    let cut = length-take-le i p.ducts (omega arith) in
+    omega arith

@@ -59,6 +59,15 @@ keep_push pits (e ∷ es) d keep own new =
       rest = keep_push pits es d f.rest own parts.1;
     })
 
+-- the first of the ducts
+pub keep_first : (pits : ℕ) (ds es : List Duct) → ducts_keep pits (ds ++ es) ≡ true → ducts_keep pits ds ≡ true
+unfolding ducts_keep
+keep_first pits [] es keep = refl
+keep_first pits (d ∷ ds) es keep =
+    let f = keep_front pits d (ds ++ es) keep in
+    let new = or_parts (is_some (between ds d.first d.second)) (is_some (between es d.first d.second)) (sym (between-append ds es d.first d.second) ∙ f.new) in
+    keep_from pits d ds (record { own = f.own; new = new.0; rest = keep_first pits ds es f.rest })
+
 -- one of the ducts in the middle
 pub keep_middle :
     (pits : ℕ) (ds : List Duct) (d : Duct) (es : List Duct) → ducts_keep pits (ds ++ d ∷ es) ≡ true

@@ -4,3 +4,4 @@ pub mod Ruling
 pub mod Finding
 pub mod Editing
 pub mod Lifted
+pub mod Filling

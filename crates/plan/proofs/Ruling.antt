@@ -1,12 +1,11 @@
 -- The test that a plan's type holds says the rules, and no more than the rules.
-use Rattle.std.proofs.Common.{◌≡◌, ℕ, zero, suc, ◌<◌, true, false, ◌&&◌, eqb, ltb, leb, List, [], ◌∷◌, length, get_or, is_some, sym, refl, ◌∙◌, inl, inr, ⊎_elim, arith}
+use Rattle.std.proofs.Common.{◌≡◌, ℕ, zero, suc, ◌<◌, ◌≤◌, true, false, ◌&&◌, eqb, ltb, leb, List, [], ◌∷◌, length, get_or, is_some, sym, refl, ◌∙◌, inl, inr, ⊎_elim, arith}
 use Rattle.std.proofs.lemmas.List.{length-take-le}
 use Rattle.std.proofs.lemmas.Bool.{and_parts, and_from, ltb-true, leb-true, eqb-true, lt-ltb, le-leb, or_parts, or_from, or_cases, both_ways, cases_Bool}
 use Rattle.std.proofs.lemmas.Bool.Decides.{nat_tests}
 use Rattle.plan.specs.declared.ducts.Duct.{Duct}
-use Rattle.plan.specs.declared.plans.Plan.{Plan}
 use Rattle.plan.specs.Ducts.{joins, between, ends_keep, length_keeps, bore_keeps, duct_keeps, ducts_keep}
-use Rattle.plan.specs.Plans.{PlanSpec, plan_of}
+use Rattle.plan.specs.Plans.{PlanSpec}
 use Rattle.plan.specs.Rules.{DuctRules, SamePits, Rules}
 use Rattle.plan.proofs.Keeping.{keep_front, keep_from, between-front}
 
@@ -59,18 +58,10 @@ all_apart pits (d ∷ ds) h i zero z lt le s = omega arith
 all_apart pits (d ∷ ds) h zero (suc j) z lt le s = not_among ds d (keep_front pits d ds h).new j z (omega arith) s
 all_apart pits (d ∷ ds) h (suc i) (suc j) z lt le s = all_apart pits ds (keep_front pits d ds h).rest i j z (omega arith) (omega arith) s
 
-pub length-ducts : (p : Plan) → length (plan_of p).ducts ≡ p.count
-length-ducts p = length-take-le p.count p.ducts (let a = p.few in let b = p.places in omega arith)
-
-pub plan-rules : (p : Plan) → Rules (plan_of p)
-plan-rules p =
-    record {
-      few_pits = p.small;
-      few_ducts = let e = length-ducts p in let h = p.few in omega arith;
-      blank = λ none. no_pits p.pits (plan_of p).ducts p.sound none;
-      each = each-rules p.pits (plan_of p).ducts p.sound;
-      apart = all_apart p.pits (plan_of p).ducts p.sound;
-    }
+-- what a test of the ducts says, where there are few enough
+pub keep-rules : (p : PlanSpec) → p.pits ≤ 512 → length p.ducts ≤ 1024 → ducts_keep p.pits p.ducts ≡ true → Rules p
+keep-rules p small few h =
+    record { few_pits = small; few_ducts = few; blank = λ none. no_pits p.pits p.ducts h none; each = each-rules p.pits p.ducts h; apart = all_apart p.pits p.ducts h }
 
 rules-own : (pits : ℕ) (d : Duct) → DuctRules pits d → duct_keeps pits d ≡ true
 rules-own pits d r =

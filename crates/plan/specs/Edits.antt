@@ -33,20 +33,28 @@ check_duct pits place d =
 abbrev pub check_repeat : List Duct → ℕ → Duct → Verdict
 check_repeat ds place d = asks (not (is_some (between ds d.first d.second))) (placed 8 place)
 
+-- the plan with a duct more, which comes last
+abbrev pub with_last : PlanSpec → Duct → PlanSpec
+with_last p d = record p { ducts = p.ducts ++ d ∷ [] }
+
+-- the plan without the ducts that join the pits a and b; the others keep their order
+abbrev pub without : PlanSpec → ℕ → ℕ → PlanSpec
+without p a b = record p { ducts = others p.ducts a b }
+
 -- a lay asks 5 to 8, then 3 for the grown list; the duct comes last
 abbrev pub lay_on : PlanSpec → Duct → Result PlanSpec Told
 lay_on p d =
     and_then (check_duct p.pits 0 d)
     (and_then (check_repeat p.ducts 0 d)
     (and_then (asks (nat_lt (length p.ducts) most_ducts) (plain 3))
-    (Ok (record { pits = p.pits; ducts = p.ducts ++ d ∷ [] }))))
+    (Ok (with_last p d))))
 
 -- a lift asks 5, then 10; the other ducts keep their order
 abbrev pub lift_off : PlanSpec → ℕ → ℕ → Result PlanSpec Told
 lift_off p a b =
     and_then (check_ends p.pits 0 a b)
     (and_then (asks (is_some (between p.ducts a b)) (plain 10))
-    (Ok (record { pits = p.pits; ducts = others p.ducts a b })))
+    (Ok (without p a b)))
 
 -- q is p without one duct, which joins the pits a and b; the others keep their order
 pub record WithoutOne (p : PlanSpec) (a b : ℕ) (q : PlanSpec) : Type 0 where

@@ -3,4 +3,5 @@ pub mod Ducts
 pub mod Refusals
 pub mod Plans
 pub mod Rules
+pub mod Fields
 pub mod Edits

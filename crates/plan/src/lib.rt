@@ -9,4 +9,3 @@ pub mod edits;
 pub mod limits;
 pub mod plans;
 pub mod refusals;
-pub mod views;

@@ -1,46 +1,51 @@
-use Rattle.std.proofs.Common.{◌≡◌, ◌<◌, List, length, sym, refl, ap, ◌∙◌, arith}
-use Rattle.plan.specs.Ducts.{others, ducts_keep}
-use Rattle.plan.specs.Plans.{PlanSpec, plan_of}
+use Rattle.std.proofs.Common.{◌+◌, ◌<◌, [], length, get_or, sym, ap, ◌∙◌, subst}
 use Rattle.plan.specs.declared.ducts.Duct.{Duct}
-use Rattle.plan.proofs.Editing.{lift_skip, lift_keep, lifted}
-use Rattle.plan.proofs.Keeping.{keep_others}
+use Rattle.plan.specs.Ducts.{others}
+use Rattle.plan.specs.Edits.{with_last}
+use Rattle.plan.specs.Fields.{unused}
+use Rattle.plan.specs.Plans.{PlanSpec}
+use Rattle.plan.specs.Rules.{Rules}
+use Rattle.plan.proofs.Editing.{lifted, lifted-all, lift-skip, lift-keep, lifted-rules, lifted-room}
 use Rattle.plan.proofs.Lifted.{lifts_one}
-use Rattle.plan.proofs.Ruling.{length-ducts}
+use Rattle.plan.proofs.Ruling.{rules-keep}
 use Rattle.plan.proofs.plans.Plan.without.Goals as goal
 use Rattle.plan.proofs.plans.Plan.without.Goals.{then-not-joins, else-not-joins}
 
 pub loop-duct-init : goal.loop-duct-init
 unfolding others
-loop-duct-init c = record { few = omega arith; places = c.args.self.now.places; kept = refl }
+loop-duct-init c = (ap (λ (p : PlanSpec). record p { ducts = [] }) c.self.view_is, c.ducts-duct-items.ensures.list)
+
+pub push-requires-clause-room : goal.push-requires-clause-room
+push-requires-clause-room c =
+    let inv = c.loop-duct.invariant in
+    subst (λ (p : PlanSpec). length p.ducts < 1024) (sym inv.0)
+    (lifted-room c.args.self.now c.args.a c.args.b c.loop-duct.duct-index c.ducts-duct-items.ensures.rules (rw inv.1 at c.loop-duct-test.true))
+
+pub push-requires-clause-rules : goal.push-requires-clause-rules
+push-requires-clause-rules c =
+    let p = c.args.self.now in
+    let i = c.loop-duct.duct-index in
+    let inv = c.loop-duct.invariant in
+    let d : Duct = get_or c.ducts-duct-items.result.now i unused in
+    let within = rw inv.1 at c.loop-duct-test.true in
+    let kept = lift-keep p c.args.a c.args.b i unused within (ap (λ ds. get_or ds i unused) inv.1) (sym c.if-not-joins.ensures) in
+    subst (λ q. Rules (with_last q d)) (sym inv.0) (subst Rules (sym kept) (lifted-rules p c.args.a c.args.b (i + 1) c.ducts-duct-items.ensures.rules))
 
 pub loop-duct-preserved : goal.loop-duct-preserved
 loop-duct-preserved c =
     let p = c.args.self.now in
-    let few = p.few in
-    let within = c.loop-duct-test.true in
+    let i = c.loop-duct.duct-index in
     let inv = c.loop-duct.invariant in
-    let fewer = inv.few in
-    let long : length c.ducts-duct-items.result.now ≡ p.count = ap length c.ducts-duct-items.ensures.list ∙ length-ducts p in
-    let room : c.loop-duct.left < 1024 = omega arith in
+    let d : Duct = get_or c.ducts-duct-items.result.now i unused in
+    let within = rw inv.1 at c.loop-duct-test.true in
+    let same = ap (λ ds. get_or ds i unused) inv.1 in
     elim c.if-not-joins.branch [
-      | then-not-joins w ↦ lift_keep _ within inv w.left-is w.ducts-is room (sym w.if-not-joins.ensures)
-      | else-not-joins w ↦ lift_skip _ within inv w.left-is w.ducts-is (sym w.if-not-joins.ensures)
+      | then-not-joins w ↦ (w.plan-is ∙ w.push.ensures ∙ ap (λ q. with_last q d) inv.0 ∙ lift-keep p c.args.a c.args.b i unused within same (sym w.if-not-joins.ensures), inv.1)
+      | else-not-joins w ↦ (w.plan-is ∙ inv.0 ∙ lift-skip p c.args.a c.args.b i unused within same (sym w.if-not-joins.ensures), inv.1)
     ]
 
-pub invariant_of-result : goal.invariant_of-result
-invariant_of-result c =
-    let p = c.args.self.now in
-    let few = p.few in
-    let fewer = c.loop-duct.invariant.few in
-    let most = c.loop-duct.auto.duct-index-end in
-    let long : length c.ducts-duct-items.result.now ≡ p.count = ap length c.ducts-duct-items.ensures.list ∙ length-ducts p in
-    let kept = lifted c.loop-duct.invariant c.loop-duct-test.false c.ducts-duct-items.ensures.list in
-    let sound = ap (ducts_keep p.pits) kept ∙ keep_others p.pits (plan_of p).ducts c.args.a c.args.b p.sound in
-    record { small = p.small; few = omega arith; places = c.loop-duct.invariant.places; sound = sound }
-
-pub returns : goal.returns
-returns c =
-    let p = c.args.self.now in
-    let made : List Duct → PlanSpec = λ ds. record { pits = p.pits; ducts = ds } in
-    let kept = lifted c.loop-duct.invariant c.loop-duct-test.false c.ducts-duct-items.ensures.list in
-    record { plan = ap made kept; one = lifts_one (plan_of p) _ c.args.a c.args.b p.sound c.requires kept refl }
+pub returns-clause-one : goal.returns-clause-one
+returns-clause-one c =
+    let inv = c.loop-duct.invariant in
+    let all = inv.0 ∙ lifted-all c.args.self.now c.args.a c.args.b c.loop-duct.duct-index (rw inv.1 at c.loop-duct-test.false) in
+    lifts_one c.args.self.now _ c.args.a c.args.b (rules-keep c.args.self.now c.ducts-duct-items.ensures.rules) c.requires (ap (λ (p : PlanSpec). p.ducts) all) (ap (λ (p : PlanSpec). p.pits) all)

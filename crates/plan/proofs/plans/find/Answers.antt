@@ -1,6 +1,6 @@
 use Rattle.std.proofs.Common.{sym, refl, ◌∙◌}
 use Rattle.plan.proofs.Finding.{between-here, between-on, between_none}
-use Rattle.plan.proofs.views.find.Goals as goal
+use Rattle.plan.proofs.plans.find.Goals as goal
 
 pub loop-duct-init : goal.loop-duct-init
 loop-duct-init c = refl

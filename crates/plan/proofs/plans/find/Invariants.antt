@@ -1,6 +1,6 @@
 use Rattle.std.proofs.Common.{◌≡◌, drop}
 use Rattle.plan.specs.Ducts.{between}
-use Rattle.plan.proofs.views.find.Given as goal
+use Rattle.plan.proofs.plans.find.Given as goal
 
 -- the ducts to come give the answer
 abbrev pub invariant-loop-duct : goal.invariant-loop-duct
