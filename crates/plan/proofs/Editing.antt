@@ -44,11 +44,11 @@ laid-rules p d r room own new =
     keep-rules (with_last p d) r.few_pits (omega arith)
     (keep_push p.pits p.ducts d (rules-keep p r) (checked_keeps p.pits 0 d own) (not_taken p.ducts 0 d new))
 
-others-push : (ds : List Duct) (d : Duct) (a b : ℕ) → others (ds ++ d ∷ []) a b ≡ others ds a b ++ cond (joins d a b) [] (d ∷ [])
+others-push : (ds : List Duct) (d : Duct) (a b : ℕ) → others (ds ++ d ∷ []) a b ≡ others ds a b ++ cond (not (joins d a b)) (d ∷ []) []
 unfolding others
 others-push [] d a b = refl
 others-push (e ∷ es) d a b =
-    elim (joins e a b) as (λ t. cond t (others (es ++ d ∷ []) a b) (e ∷ others (es ++ d ∷ []) a b) ≡ cond t (others es a b) (e ∷ others es a b) ++ cond (joins d a b) [] (d ∷ []))
+    elim (joins e a b) as (λ t. cond (not t) (e ∷ others (es ++ d ∷ []) a b) (others (es ++ d ∷ []) a b) ≡ cond (not t) (e ∷ others es a b) (others es a b) ++ cond (not (joins d a b)) (d ∷ []) [])
     [ true ↦ others-push es d a b | false ↦ ap (λ xs. e ∷ xs) (others-push es d a b) ]
 
 length-others : (ds : List Duct) (a b : ℕ) → length (others ds a b) ≤ length ds
@@ -56,7 +56,7 @@ unfolding others
 length-others [] a b = omega arith
 length-others (d ∷ ds) a b =
     let on = length-others ds a b in
-    elim (joins d a b) as (λ t. length (cond t (others ds a b) (d ∷ others ds a b)) ≤ length (d ∷ ds)) [ true ↦ omega arith | false ↦ omega arith ]
+    elim (joins d a b) as (λ t. length (cond (not t) (d ∷ others ds a b) (others ds a b)) ≤ length (d ∷ ds)) [ true ↦ omega arith | false ↦ omega arith ]
 
 -- the first i of the ducts, without those that join a and b
 abbrev pub lifted : PlanSpec → ℕ → ℕ → ℕ → PlanSpec
@@ -66,11 +66,11 @@ pub lifted-all : (p : PlanSpec) (a b i : ℕ) → length p.ducts ≤ i → lifte
 lifted-all p a b i h = ap (λ ds. without (record p { ducts = ds }) a b) (take_all i p.ducts h)
 
 module _ (p : PlanSpec) (a b i : ℕ) (z : Duct) (within : i < length p.ducts) {d : Duct} (is : d ≡ get_or p.ducts i z) where
-  step : (t : Bool) → joins d a b ≡ t → others (take (i + 1) p.ducts) a b ≡ others (take i p.ducts) a b ++ cond t [] (d ∷ [])
+  step : (t : Bool) → joins d a b ≡ t → others (take (i + 1) p.ducts) a b ≡ others (take i p.ducts) a b ++ cond (not t) (d ∷ []) []
   step t e =
       ap (λ ds. others ds a b) (take_more p.ducts i z within ∙ ap (λ x. take i p.ducts ++ x ∷ []) (sym is))
       ∙ others-push (take i p.ducts) d a b
-      ∙ ap (λ u. others (take i p.ducts) a b ++ cond u [] (d ∷ [])) e
+      ∙ ap (λ u. others (take i p.ducts) a b ++ cond (not u) (d ∷ []) []) e
 
   -- the duct joins the two pits, and is left out
   pub lift-skip : joins d a b ≡ true → lifted p a b i ≡ lifted p a b (i + 1)

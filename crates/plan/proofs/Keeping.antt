@@ -89,7 +89,7 @@ between-others [] a b x y h = refl
 between-others (d ∷ ds) a b x y h =
     let p = or_parts (joins d x y) (is_some (between ds x y)) (sym (between-front d ds x y) ∙ h) in
     let on = between-others ds a b x y p.1 in
-    elim (joins d a b) as (λ t. is_some (between (cond t (others ds a b) (d ∷ others ds a b)) x y) ≡ false)
+    elim (joins d a b) as (λ t. is_some (between (cond (not t) (d ∷ others ds a b) (others ds a b)) x y) ≡ false)
     [ true ↦ on | false ↦ between-front d (others ds a b) x y ∙ or_from (joins d x y) (is_some (between (others ds a b) x y)) p.0 on ]
 
 pub keep_others : (pits : ℕ) (ds : List Duct) (a b : ℕ) → ducts_keep pits ds ≡ true → ducts_keep pits (others ds a b) ≡ true
@@ -98,5 +98,5 @@ keep_others pits [] a b h = h
 keep_others pits (d ∷ ds) a b h =
     let f = keep_front pits d ds h in
     let on = keep_others pits ds a b f.rest in
-    elim (joins d a b) as (λ t. ducts_keep pits (cond t (others ds a b) (d ∷ others ds a b)) ≡ true)
+    elim (joins d a b) as (λ t. ducts_keep pits (cond (not t) (d ∷ others ds a b) (others ds a b)) ≡ true)
     [ true ↦ on | false ↦ keep_from pits d (others ds a b) (record { own = f.own; new = between-others ds a b d.first d.second f.new; rest = on }) ]

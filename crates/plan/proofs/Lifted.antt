@@ -1,5 +1,5 @@
 -- Of ducts that keep the rules, one at most joins two pits, so a lift takes out one.
-use Rattle.std.proofs.Common.{◌≡◌, ℕ, Bool, true, false, cond, ◌||◌, List, [], ◌∷◌, ◌++◌, is_some, sym, refl, ap, ◌∙◌, arith}
+use Rattle.std.proofs.Common.{◌≡◌, ℕ, Bool, true, false, cond, not, ◌||◌, List, [], ◌∷◌, ◌++◌, is_some, sym, refl, ap, ◌∙◌, arith}
 use Rattle.std.proofs.lemmas.Bool.{or_parts, both_ways}
 use Rattle.std.proofs.lemmas.Bool.Decides.{nat_tests}
 use Rattle.plan.specs.declared.ducts.Duct.{Duct}
@@ -14,7 +14,7 @@ unfolding others
 others-all [] a b h = refl
 others-all (d ∷ ds) a b h =
     let p = or_parts (joins d a b) (is_some (between ds a b)) (sym (between-front d ds a b) ∙ h) in
-    ap (λ t. cond t (others ds a b) (d ∷ others ds a b)) p.0 ∙ ap (λ xs. d ∷ xs) (others-all ds a b p.1)
+    ap (λ t. cond (not t) (d ∷ others ds a b) (others ds a b)) p.0 ∙ ap (λ xs. d ∷ xs) (others-all ds a b p.1)
 
 -- the same two pits, named by the ends of a duct that joins them
 joins-ends : (d e : Duct) (a b : ℕ) → joins d a b ≡ true → joins e a b ≡ joins e d.first d.second
@@ -50,7 +50,7 @@ parted_front pits d ds a b keep there rest true e =
       after = ds;
       was = refl;
       joined = e;
-      left = ap (λ t. cond t (others ds a b) (d ∷ others ds a b)) e ∙ others-all ds a b none;
+      left = ap (λ t. cond (not t) (d ∷ others ds a b) (others ds a b)) e ∙ others-all ds a b none;
     }
 parted_front pits d ds a b keep there rest false e =
     let p = rest (ap (λ t. t || is_some (between ds a b)) (sym e) ∙ sym (between-front d ds a b) ∙ there) in
@@ -60,7 +60,7 @@ parted_front pits d ds a b keep there rest false e =
       after = p.after;
       was = ap (λ xs. d ∷ xs) p.was;
       joined = p.joined;
-      left = ap (λ t. cond t (others ds a b) (d ∷ others ds a b)) e ∙ ap (λ xs. d ∷ xs) p.left;
+      left = ap (λ t. cond (not t) (d ∷ others ds a b) (others ds a b)) e ∙ ap (λ xs. d ∷ xs) p.left;
     }
 
 parted : (pits : ℕ) (ds : List Duct) (a b : ℕ) → ducts_keep pits ds ≡ true → is_some (between ds a b) ≡ true → Parted ds a b

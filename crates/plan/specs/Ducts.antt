@@ -1,5 +1,6 @@
 -- What a duct must be, which pits it joins, and what the ducts of a plan keep.
-use Rattle.std.specs.Prelude.{ℕ, Bool, true, cond, not, ◌&&◌, ◌||◌, List, [], ◌∷◌, is_some, Some, None, Option, ◌==◌, nat_le, nat_lt}
+use Rattle.std.specs.Prelude.{ℕ, Bool, true, cond, not, ◌&&◌, ◌||◌, List, [], ◌∷◌, is_some, filter, Option, ◌==◌, nat_le, nat_lt}
+use Rattle.std.specs.List.{find}
 use Rattle.plan.specs.declared.ducts.Duct.{Duct}
 use Rattle.plan.specs.Limits.{longest, narrowest, widest}
 
@@ -22,13 +23,11 @@ joins d a b = (d.first == a && d.second == b) || (d.first == b && d.second == a)
 
 -- the duct between the pits a and b, if there is one
 unfoldable pub between : List Duct → ℕ → ℕ → Option Duct
-between [] a b = None
-between (d ∷ ds) a b = cond (joins d a b) (Some d) (between ds a b)
+between ds a b = find (λ d. joins d a b) ds
 
 -- the ducts that do not join a and b, in their order
 unfoldable pub others : List Duct → ℕ → ℕ → List Duct
-others [] a b = []
-others (d ∷ ds) a b = cond (joins d a b) (others ds a b) (d ∷ others ds a b)
+others ds a b = filter (λ d. not (joins d a b)) ds
 
 -- each duct is within the limits, and no two join the same two pits
 unfoldable pub ducts_keep : ℕ → List Duct → Bool

@@ -1,3 +1,12 @@
+ghost use Rattle.std.specs.Prelude.{◌≡◌};
+ghost use Rattle.plan.specs.Ducts.{joins};
+ghost use Rattle.plan.specs.Edits.{check_duct};
+ghost use Rattle.plan.specs.Refusals.{heard};
+
+use crate::checks::check_ends;
+use crate::limits::{MAX_BORE, MAX_LENGTH, MIN_BORE};
+use crate::refusals::Refusal;
+
 // A duct: the pipe between two pits that a cable is drawn through.
 #[derive(Clone, Copy, PartialEq, Eq, Debug)]
 pub struct Duct {
@@ -18,4 +27,25 @@ impl Duct {
         length: 0,
         bore: 0,
     };
+
+    // Whether the duct joins the pits `a` and `b`, either way round.
+    pub fn joins(&self, a: u16, b: u16) -> bool
+        ensures { result ≡ joins self.now a b }
+    {
+        (self.first == a && self.second == b) || (self.first == b && self.second == a)
+    }
+
+    // Questions 5 to 7 on a duct of a plan of so many pits: its ends, its length, its bore.
+    pub fn check(&self, pits: u16, place: u16) -> Result<(), Refusal>
+        ensures { heard result ≡ check_duct pits place self.now }
+    {
+        check_ends(pits, place, self.first, self.second)?;
+        if self.length < 1 || self.length > MAX_LENGTH {
+            return Err(Refusal::Length { place });
+        }
+        if self.bore < MIN_BORE || self.bore > MAX_BORE {
+            return Err(Refusal::Bore { place });
+        }
+        Ok(())
+    }
 }

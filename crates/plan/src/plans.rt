@@ -74,10 +74,5 @@ impl Plan {
 fn find(ducts: &[Duct], a: u16, b: u16) -> Option<Duct>
     ensures { result ≡ between ducts.now a b }
 {
-    for duct in ducts {
-        if duct.joins(a, b) {
-            return Some(*duct);
-        }
-    }
-    None
+    ducts.iter().find(|duct| duct.joins(a, b)).copied()
 }
