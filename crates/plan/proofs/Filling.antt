@@ -39,6 +39,6 @@ push-holds i d h room rules =
     let ds = (plan_of i).ducts in
     let long : length (ds ++ d ∷ []) ≡ i.count + 1 = length-append ds (d ∷ []) ∙ ap (λ n. n + 1) (sym h.count) in
     let put : places_of (ds ++ d ∷ []) ≡ set i.ducts i.count d =
-      sym (places-push ds d room) ∙ ap (λ n. set (places_of ds) n d) (sym h.count) ∙ ap (λ xs. set xs i.count d) (sym h.places) in
+    sym (places-push ds d room) ∙ ap (λ n. set (places_of ds) n d) (sym h.count) ∙ ap (λ xs. set xs i.count d) (sym h.places) in
     subst (λ n. Holds (record { pits = i.pits; count = n; ducts = set i.ducts i.count d })) long
     (subst (λ xs. Holds (record { pits = i.pits; count = length (ds ++ d ∷ []); ducts = xs })) put (fields-hold (with_last (plan_of i) d) rules))

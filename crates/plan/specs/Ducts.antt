@@ -1,5 +1,5 @@
 -- What a duct must be, which pits it joins, and what the ducts of a plan keep.
-use Rattle.std.specs.Prelude.{ℕ, Bool, true, cond, not, ◌&&◌, ◌||◌, List, [], ◌∷◌, is_some, filter, Option, ◌==◌, nat_le, nat_lt}
+use Rattle.std.specs.Prelude.{ℕ, Bool, true, not, ◌&&◌, ◌||◌, List, [], ◌∷◌, is_some, filter, Option, ◌==◌, nat_le, nat_lt}
 use Rattle.std.specs.List.{find}
 use Rattle.plan.specs.declared.ducts.Duct.{Duct}
 use Rattle.plan.specs.Limits.{longest, narrowest, widest}

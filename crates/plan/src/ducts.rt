@@ -40,10 +40,10 @@ impl Duct {
         ensures { heard result ≡ check_duct pits place self.now }
     {
         check_ends(pits, place, self.first, self.second)?;
-        if self.length < 1 || self.length > MAX_LENGTH {
+        if !(1..=MAX_LENGTH).contains(&self.length) {
             return Err(Refusal::Length { place });
         }
-        if self.bore < MIN_BORE || self.bore > MAX_BORE {
+        if !(MIN_BORE..=MAX_BORE).contains(&self.bore) {
             return Err(Refusal::Bore { place });
         }
         Ok(())

@@ -20,9 +20,7 @@ impl Plan {
         if self.ducts().len() >= MAX_DUCTS {
             return Err(Refusal::DuctCount);
         }
-        let mut plan = *self;
-        plan.push(duct);
-        Ok(plan)
+        Ok(self.with_last(duct))
     }
 
     // The plan without the duct between two ends: one duct is gone, and the others keep their order. A refused lift leaves
@@ -47,6 +45,20 @@ impl Plan {
         } else {
             Ok(())
         }
+    }
+
+    // A copy of the plan with a checked duct laid last.
+    fn with_last(&self, duct: Duct) -> Plan
+        requires own { check_duct self.now.pits 0 duct ≡ Ok tt }
+        requires new { check_repeat self.now.ducts 0 duct ≡ Ok tt }
+        requires room { length self.now.ducts < 1024 }
+        ensures { result ≡ with_last self.now duct }
+    {
+        // a field is named, so that the proof has the rules that every plan keeps
+        let _ = &self.pits;
+        let mut plan = *self;
+        plan.push(duct);
+        plan
     }
 
     // Lays a duct last that keeps the rules.

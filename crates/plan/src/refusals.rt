@@ -1,5 +1,8 @@
-ghost use Rattle.std.specs.Prelude.{◌≡◌};
+ghost use Rattle.std.specs.Prelude.{◌≡◌, Some};
 ghost use Rattle.plan.specs.Refusals.{told, in_words};
+
+use std::error::Error;
+use std::fmt;
 
 // Why a call is refused: the first question that got a no. The place is that of the duct in the file,
 // from 0, and 0 where the duct came by a lay or its ends by a lift.
@@ -38,7 +41,7 @@ pub enum Refusal {
 }
 
 // The two figures that a refusal carries besides its number.
-#[derive(Clone, Copy, PartialEq, Eq, Debug)]
+#[derive(Clone, Copy, PartialEq, Eq, Debug, Default)]
 pub struct Figures {
     pub first: u32,
     pub second: u32,
@@ -85,10 +88,7 @@ impl Refusal {
                 first: depth,
                 second: u32::from(pits),
             },
-            _ => Figures {
-                first: 0,
-                second: 0,
-            },
+            _ => Figures::default(),
         }
     }
 
@@ -96,30 +96,34 @@ impl Refusal {
     pub fn rule(self) -> &'static str
         ensures { result.now ≡ in_words self }
     {
-        words(self)
+        match self {
+            Refusal::ShortFile => "a plan file has at least 4 bytes",
+            Refusal::PitCount => "a plan has 1 to 512 pits",
+            Refusal::DuctCount => "a plan has at most 1024 ducts",
+            Refusal::FileSize => "a plan file has exactly 4 bytes and 10 more for each duct",
+            Refusal::Ends { .. } =>
+                "a duct's first end is below its second, and both are pits of the plan",
+            Refusal::Length { .. } => "a duct is 1 to 1000000 centimetres long",
+            Refusal::Bore { .. } => "a duct's bore is 10 to 300 millimetres",
+            Refusal::Repeat { .. } => "no two ducts join the same two pits",
+            Refusal::Unfit { .. } => "the plan's trunk fits the finder",
+            Refusal::NoDuct => "there is a duct between the two pits",
+            Refusal::OffPlan => "every pit that is named is on the plan",
+            Refusal::ShortList => "the list has a place for each pit of the plan",
+            Refusal::NoWay => "there is a way between the two pits",
+            Refusal::BlankPlan => "the plan has pits",
+            Refusal::ShortBuffer => "the buffer is long enough",
+        }
     }
 }
 
-// The words for each refusal.
-fn words(refusal: Refusal) -> &'static str
-    ensures { result.now ≡ in_words refusal }
-{
-    match refusal {
-        Refusal::ShortFile => "a plan file has at least 4 bytes",
-        Refusal::PitCount => "a plan has 1 to 512 pits",
-        Refusal::DuctCount => "a plan has at most 1024 ducts",
-        Refusal::FileSize => "a plan file has exactly 4 bytes and 10 more for each duct",
-        Refusal::Ends { .. } =>
-            "a duct's first end is below its second, and both are pits of the plan",
-        Refusal::Length { .. } => "a duct is 1 to 1000000 centimetres long",
-        Refusal::Bore { .. } => "a duct's bore is 10 to 300 millimetres",
-        Refusal::Repeat { .. } => "no two ducts join the same two pits",
-        Refusal::Unfit { .. } => "the plan's trunk fits the finder",
-        Refusal::NoDuct => "there is a duct between the two pits",
-        Refusal::OffPlan => "every pit that is named is on the plan",
-        Refusal::ShortList => "the list has a place for each pit of the plan",
-        Refusal::NoWay => "there is a way between the two pits",
-        Refusal::BlankPlan => "the plan has pits",
-        Refusal::ShortBuffer => "the buffer is long enough",
+// A refusal is printed as its rule.
+impl fmt::Display for Refusal {
+    ghost output = { λ refusal. Some (in_words refusal) };
+
+    fn fmt<W: fmt::Write>(&self, f: &mut fmt::Formatter<W>) -> fmt::Result {
+        f.write_str(self.rule())
     }
 }
+
+impl Error for Refusal {}

@@ -5,7 +5,7 @@ use Rattle.plan.specs.Edits.{with_last}
 use Rattle.plan.specs.Fields.{unused}
 use Rattle.plan.specs.Plans.{PlanSpec}
 use Rattle.plan.specs.Rules.{Rules}
-use Rattle.plan.proofs.Editing.{lifted, lifted-all, lift-skip, lift-keep, lifted-rules, lifted-room}
+use Rattle.plan.proofs.Editing.{lifted-all, lift-skip, lift-keep, lifted-rules, lifted-room}
 use Rattle.plan.proofs.Lifted.{lifts_one}
 use Rattle.plan.proofs.Ruling.{rules-keep}
 use Rattle.plan.proofs.plans.Plan.without.Goals as goal
