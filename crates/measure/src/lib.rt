@@ -3,29 +3,25 @@
 // There are two measures, `Length` and `Bore`; code above is generic and proved from the five laws alone.
 #![tactic(auto)]
 
-ghost use Rattle.std.specs.Prelude.{◌≡◌};
+ghost use Rattle.std.specs.Prelude.{◌≡◌, ℕ};
 ghost use Rattle.measure.specs.Laws.{Laws};
 ghost use Rattle.measure.specs.Meaning.{Meaning, read};
 ghost use Rattle.measure.specs.Measures.{by_length, by_bore};
 ghost use Rattle.std.proofs.Common.{rules};
 
-// A lawful measure. Its constants have functions beside them, since generic code learns a value from a contract only.
+// A lawful measure.
 pub trait Measure {
     // the cost of standing still: joined with a cost it changes nothing
     const STILL: u64;
 
+    ghost STILL: { ℕ };
+
     // the greatest cost, where joining stops
     const GREATEST: u64;
 
+    ghost GREATEST: { ℕ };
+
     ghost means: { Meaning };
-
-    // The cost of standing still.
-    fn still_cost() -> u64
-        ensures { result ≡ (read means).still };
-
-    // The greatest cost.
-    fn greatest_cost() -> u64
-        ensures { result ≡ (read means).greatest };
 
     // The cost of a duct, from its length and bore alone.
     fn duct_cost(length: u32, bore: u16) -> u64
@@ -41,6 +37,11 @@ pub trait Measure {
 
     // the five laws, of the measure as it reads numbers
     ghost keeps: { Laws (read means) };
+
+    // the two constants are the measure's own costs
+    ghost still_is: { STILL ≡ (read means).still };
+
+    ghost greatest_is: { GREATEST ≡ (read means).greatest };
 }
 
 // The length of a way in centimetres, the sum of its ducts' lengths. A smaller cost is no worse.
@@ -53,17 +54,17 @@ impl Measure for Length {
     // 2 to the 40th: no simple way of a plan comes near it
     const GREATEST: u64 = 1_099_511_627_776;
 
+    ghost STILL = { 0 };
+
+    ghost GREATEST = { 1099511627776 };
+
     ghost means = { by_length };
 
     ghost keeps = { Prim.search rules };
 
-    fn still_cost() -> u64 {
-        Self::STILL
-    }
+    ghost still_is = { Prim.search rules };
 
-    fn greatest_cost() -> u64 {
-        Self::GREATEST
-    }
+    ghost greatest_is = { Prim.search rules };
 
     fn duct_cost(length: u32, _bore: u16) -> u64 {
         u64::from(length)
@@ -87,17 +88,17 @@ impl Measure for Bore {
 
     const GREATEST: u64 = 65_535;
 
+    ghost STILL = { 65535 };
+
+    ghost GREATEST = { 65535 };
+
     ghost means = { by_bore };
 
     ghost keeps = { Prim.search rules };
 
-    fn still_cost() -> u64 {
-        Self::STILL
-    }
+    ghost still_is = { Prim.search rules };
 
-    fn greatest_cost() -> u64 {
-        Self::GREATEST
-    }
+    ghost greatest_is = { Prim.search rules };
 
     fn duct_cost(_length: u32, bore: u16) -> u64 {
         u64::from(bore)
