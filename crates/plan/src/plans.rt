@@ -64,7 +64,8 @@ impl Plan {
 
     // The duct between two pits, if there is one.
     pub fn duct_between(&self, a: u16, b: u16) -> Option<Duct>
-        ensures { result ≡ between self.now.ducts a b }
+        ensures duct { result ≡ between self.now.ducts a b }
+        ensures rules { Rules self.now }
     {
         find(self.ducts(), a, b)
     }

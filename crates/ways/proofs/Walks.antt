@@ -1,6 +1,6 @@
 -- A walk along the pits of a list, joining costs on the way.
-use Rattle.std.proofs.Common.{◌≡◌, ℕ, ◌+◌, ◌-◌, ◌<◌, ◌≤◌, Bool, true, false, cond, ◌&&◌, eqb, ltb, List, [], ◌∷◌, length, get_or, take, drop, is_some, Some, None, Option, sym, refl, ap, ◌∙◌, inl, inr, arith}
-use Rattle.std.proofs.lemmas.List.{drop_more, drop_all, take_rest}
+use Rattle.std.proofs.Common.{◌≡◌, ℕ, ◌+◌, ◌<◌, ◌≤◌, Bool, true, false, cond, ◌&&◌, eqb, ltb, List, [], ◌∷◌, length, get_or, drop, is_some, Some, None, Option, sym, refl, ap, ◌∙◌, inl, inr, arith}
+use Rattle.std.proofs.lemmas.List.{drop_more, drop_all}
 use Rattle.std.proofs.lemmas.Bool.{both_ways, or_cases, and_parts, and_from, eqb-true, lt-ltb, ltb-true}
 use Rattle.measure.specs.Meaning.{Meaning, IsCost}
 use Rattle.measure.proofs.Lawful.{Lawful}
@@ -83,20 +83,10 @@ module _ (m : Meaning) (laws : Lawful m) (p : PlanSpec) (first : ℕ) (later : L
           inv.costs ∙ ap (λ xs. m.join cost (cost_from m p here xs)) none ∙ laws.neutral cost inv.fits,
         )
 
--- no pits are no way, and neither are pits with the first off the plan
-pub no_pits : (p : PlanSpec) (ps : List ℕ) → length ps < 1 → (a b : ℕ) → Way p a b ps → ⊥
-no_pits p [] l a b w = w
-no_pits p (x ∷ ps) l a b w = omega arith
-
-pub off_plan : (p : PlanSpec) (ps : List ℕ) → p.pits ≤ get_or ps 0 0 → (a b : ℕ) → Way p a b ps → ⊥
-off_plan p [] l a b w = w
-off_plan p (x ∷ []) l a b w = (let below = w.1.1 in omega arith)
-off_plan p (x ∷ (y ∷ ps)) l a b w = (let below = w.1.0 in omega arith)
-
--- a list as its first pit and the later ones
-pub front : (ps : List ℕ) → 1 ≤ length ps → ps ≡ get_or ps 0 0 ∷ take (length ps - 1) (drop 1 ps)
-front [] l = absurd (omega arith)
-front (x ∷ xs) l = ap (λ ys. x ∷ ys) (sym (take_rest (x ∷ xs) 1))
+-- pits with the first off the plan are no way
+pub off_plan : (p : PlanSpec) (x : ℕ) (ps : List ℕ) → p.pits ≤ x → (a b : ℕ) → Way p a b (x ∷ ps) → ⊥
+off_plan p x [] l a b w = (let below = w.1.1 in omega arith)
+off_plan p x (y ∷ ps) l a b w = (let below = w.1.0 in omega arith)
 
 -- the test of a way, and what it says
 leads_on_lem : (p : PlanSpec) (a b : ℕ) (ps : List ℕ) → Leads p a b ps → leads_on p a ps ≡ true

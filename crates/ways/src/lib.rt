@@ -5,7 +5,6 @@
 
 ghost use Rattle.std.specs.Prelude.{◌≡◌, ◌<◌, ◌∷◌};
 ghost use Rattle.measure.specs.Meaning.{read};
-ghost use Rattle.plan.specs.Plans.{plan_of};
 ghost use Rattle.ways.specs.Pits.{cost_of_pits, CostOfPits};
 ghost use Rattle.ways.specs.Theorems.{BestCosts};
 ghost use Rattle.ways.specs.Ways.{cost_of_duct};
@@ -18,8 +17,8 @@ use plan::plans::Plan;
 // The cost of the way by these pits, the first to the last; None where they are no way of the plan.
 // What is proved of best costs in general stands here too.
 pub fn way_cost<M: Measure>(plan: &Plan, pits: &[u16]) -> Option<u64>
-    ensures answer { result ≡ cost_of_pits (read M.Measure.means) (plan_of plan.now) pits.now }
-    ensures cost { CostOfPits (read M.Measure.means) (plan_of plan.now) pits.now result }
+    ensures answer { result ≡ cost_of_pits (read M.Measure.means) plan.now pits.now }
+    ensures cost { CostOfPits (read M.Measure.means) plan.now pits.now result }
     ensures theorems { BestCosts (read M.Measure.means) }
     ensures worked { Worked }
 {
@@ -42,25 +41,23 @@ fn best_costs<M: Measure>()
 
 // The cost by these pits, of which there may be none, or the first may be off the plan.
 fn cost_by<M: Measure>(plan: &Plan, pits: &[u16]) -> Option<u64>
-    ensures answer { result ≡ cost_of_pits (read M.Measure.means) (plan_of plan.now) pits.now }
-    ensures cost { CostOfPits (read M.Measure.means) (plan_of plan.now) pits.now result }
+    ensures answer { result ≡ cost_of_pits (read M.Measure.means) plan.now pits.now }
+    ensures cost { CostOfPits (read M.Measure.means) plan.now pits.now result }
 {
-    if pits.len() == 0 {
+    let (first, later) = pits.split_first()?;
+    if *first >= plan.pit_count() {
         return None;
     }
-    if pits[0] >= plan.pit_count() {
-        return None;
-    }
-    cost_from::<M>(plan, pits[0], &pits[1..])
+    cost_from::<M>(plan, *first, later)
 }
 
 // The cost from a pit of the plan by the later pits.
 fn cost_from<M: Measure>(plan: &Plan, first: u16, later: &[u16]) -> Option<u64>
-    requires { first < (plan_of plan.now).pits }
-    ensures { CostOfPits (read M.Measure.means) (plan_of plan.now) (first ∷ later.now) result }
+    requires { first < plan.now.pits }
+    ensures { CostOfPits (read M.Measure.means) plan.now (first ∷ later.now) result }
 {
     let mut here = first;
-    let mut cost = M::still_cost();
+    let mut cost = M::STILL;
     for next in later {
         let duct = plan.duct_between(here, *next)?;
         cost = M::join(cost, duct_cost::<M>(duct));
