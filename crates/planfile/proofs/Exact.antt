@@ -4,7 +4,7 @@ use Rattle.std.specs.List.{range_with_len, flat_map}
 use Rattle.std.proofs.lemmas.List.FromFn.{length-map-range_with_len}
 use Rattle.std.proofs.lemmas.List.{append_assoc, append-nil, drop_more, drop-drop, drop_all, take-append-drop, get_or-take, get_or-drop, length-take-le, length-drop}
 use Rattle.plan.specs.Edits.{check_duct, check_repeat}
-use Rattle.plan.specs.Plans.{PlanSpec, plan_of, heard_plan}
+use Rattle.plan.specs.Plans.{PlanSpec}
 use Rattle.plan.specs.Refusals.{Told}
 use Rattle.plan.specs.declared.plans.Plan.{Plan}
 use Rattle.plan.specs.declared.ducts.Duct.{Duct}
@@ -190,9 +190,9 @@ accepted_is_file bs p fit h =
 
 -- every answer, by the file alone
 pub judged :
-    (bs : List ℕ) → ((i : ℕ) → Fits w8 (get_or bs i 0)) → (r : Result Plan Refusal) → heard_plan r ≡ decode bs → MatchResult r (λ p. FileOf (plan_of p) bs) (λ _. NoFile bs)
+    (bs : List ℕ) → ((i : ℕ) → Fits w8 (get_or bs i 0)) → (r : Result Plan Refusal) → heard r ≡ decode bs → MatchResult r (λ p. FileOf p bs) (λ _. NoFile bs)
 judged bs fit (Ok p) h =
-    let f = accepted_is_file bs (plan_of p) (λ i below. (fit i).fits) (sym h) in
+    let f = accepted_is_file bs p (λ i below. (fit i).fits) (sym h) in
     record { some = f.0; rules = plan-rules p; bytes = f.1 }
 judged bs fit (Err e) h = λ p f.
     not_both (h ∙ ap decode (sym f.bytes) ∙ round_trip p f.some f.rules.few_pits f.rules.few_ducts (rules-keep p f.rules))

@@ -1,5 +1,4 @@
 ghost use Rattle.std.specs.Prelude.{◌≡◌, MatchResult};
-ghost use Rattle.plan.specs.Plans.{plan_of, heard_plan};
 ghost use Rattle.plan.specs.Refusals.{heard};
 ghost use Rattle.planfile.specs.Files.{FileOf, NoFile};
 ghost use Rattle.planfile.specs.Loading.{check_sizes, decode, load_on};
@@ -33,7 +32,7 @@ fn check_sizes(bytes: &[u8]) -> Result<(), Refusal>
 
 // The plan of a file, or the first rule that the file breaks: questions 1 to 4, then 5 to 8 on each duct in turn.
 fn parse(bytes: &[u8]) -> Result<Plan, Refusal>
-    ensures { heard_plan result ≡ decode bytes.now }
+    ensures { heard result ≡ decode bytes.now }
 {
     check_sizes(bytes)?;
     let pits = words::get_two(bytes, 0);
@@ -61,8 +60,8 @@ fn parse(bytes: &[u8]) -> Result<Plan, Refusal>
 // What `parse` gives. An accepted file is the file of the plan that it gives, byte by byte, and a refused one is the file
 // of no plan.
 fn read(bytes: &[u8]) -> Result<Plan, Refusal>
-    ensures answer { heard_plan result ≡ decode bytes.now }
-    ensures exact { MatchResult result (λ p. FileOf (plan_of p) bytes.now) (λ _. NoFile bytes.now) }
+    ensures answer { heard result ≡ decode bytes.now }
+    ensures exact { MatchResult result (λ p. FileOf p bytes.now) (λ _. NoFile bytes.now) }
 {
     parse(bytes)
 }
@@ -70,9 +69,9 @@ fn read(bytes: &[u8]) -> Result<Plan, Refusal>
 // Loads a file: its plan becomes the plan that stands. A file that breaks a rule is refused with the first that it breaks,
 // and the plan that stood stays. An accepted file is the file of its plan, byte by byte; a refused one is the file of no plan.
 pub fn load(plan: &mut Plan, bytes: &[u8]) -> Result<(), Refusal>
-    ensures answer { heard result ≡ (load_on bytes.now (plan_of plan.old)).answer }
-    ensures stands { plan_of plan.new ≡ (load_on bytes.now (plan_of plan.old)).plan }
-    ensures exact { MatchResult result (λ _. FileOf (plan_of plan.new) bytes.now) (λ _. NoFile bytes.now) }
+    ensures answer { heard result ≡ (load_on bytes.now plan.old).answer }
+    ensures stands { plan.new ≡ (load_on bytes.now plan.old).plan }
+    ensures exact { MatchResult result (λ _. FileOf plan.new bytes.now) (λ _. NoFile bytes.now) }
 {
     *plan = read(bytes)?;
     Ok(())

@@ -1,12 +1,12 @@
 -- The loops of the search, as the code runs them over a plan and its index.
-use Rattle.std.proofs.Common.{◌≡◌, ℕ, ◌<◌, Bool, true, false, List, length, set, Some, None, Option, ap, ◌∙◌, arith}
+use Rattle.std.proofs.Common.{◌≡◌, ℕ, ◌<◌, Bool, true, false, List, length, set, Some, None, Option, refl, ap, ◌∙◌, arith}
 use Rattle.measure.specs.Laws.{Laws}
 use Rattle.measure.specs.Meaning.{Meaning, read}
 use Rattle.measure.proofs.Lawful.{lawful}
 use Rattle.plan.specs.declared.ducts.Duct.{Duct}
-use Rattle.plan.specs.declared.plans.Plan.{Plan}
-use Rattle.plan.specs.Plans.{plan_of}
-use Rattle.plan.proofs.Ruling.{length-ducts, plan-rules}
+use Rattle.plan.specs.Plans.{PlanSpec}
+use Rattle.plan.specs.Rules.{Rules}
+use Rattle.plan.proofs.Ruling.{rules-keep}
 use Rattle.search.specs.declared.indexed.IndexedPlan.{IndexedPlan}
 use Rattle.search.specs.declared.marks.Mark.{Mark}
 use Rattle.search.specs.Allowed.{is_allowed, restricted}
@@ -31,16 +31,16 @@ module _ (m : Meaning) (x : IndexedPlan) (al : List Bool) (u : ℕ) (here : Mark
 
   pub ducts-start : (ms : List Mark) → u < (plan_in x).pits → Walks ms (head_at x.heads u) ms
   ducts-start ms l =
-      let small = x.plan.small in
+      let small = x.rules.few_pits in
       let wide = x.wide in
-      walk_starts m al u here.cost here.hops ds x.heads ms (starts_of ds (plan_in x).ducts x.plan.count x.heads is (length-ducts x.plan) x.starts) (omega arith)
+      walk_starts m al u here.cost here.hops ds x.heads ms (starts_of ds x.plan.ducts (length x.plan.ducts) x.heads is refl x.starts) (omega arith)
 
   module _ (old ms : List Mark) (o : Option ℕ) (j : ℕ) (at_j : o ≡ Some j) (w : Walks old o ms) where
     links : LinksTo ds (length ds) x.links
-    links = chained_of ds (plan_in x).ducts x.plan.count x.links is (length-ducts x.plan) x.chained
+    links = chained_of ds x.plan.ducts (length x.plan.ducts) x.links is refl x.chained
 
     pub ducts-within : (n : ℕ) → n ≡ (plan_in x).pits → Within n (duct_at ds j)
-    ducts-within n e = within_plan (plan_in x) (plan-rules x.plan) ds is j n (walk_at m al u here.cost here.hops ds x.links links old ms o j at_j w).0 e
+    ducts-within n e = within_plan (plan_in x) x.rules ds is j n (walk_at m al u here.cost here.hops ds x.links links old ms o j at_j w).0 e
 
     module _ (o' : Option ℕ) (q : o' ≡ before (duct_at ds j) u (links_at x.links j)) where
       pub ducts-fall : ahead o' < ahead o
@@ -53,13 +53,13 @@ module _ (m : Meaning) (x : IndexedPlan) (al : List Bool) (u : ℕ) (here : Mark
   ducts-end old ms o e w = walk_ends m al u here.cost here.hops ds old ms o e w ∙ ap (λ (es : List Duct). relax_down m al u here.cost here.hops es (length es) old) is
 
 -- the turns of a search
-module _ (means : Meaning) (keeps : Laws (read means)) (al : List Bool) (p : Plan) (goal : ℕ) where
+module _ (means : Meaning) (keeps : Laws (read means)) (al : List Bool) (p : PlanSpec) (rules : Rules p) (goal : ℕ) where
   -- the marks between two turns
   abbrev pub Turning : List Mark → Type 0
-  Turning ms = Inv (read means) (restricted al (plan_of p)) goal ms
+  Turning ms = Inv (read means) (restricted al p) goal ms
 
   pub run_starts : (n : ℕ) (clear : List Mark) (first : Mark) → clear ≡ none_seen n → n ≡ p.pits → first ≡ goal_mark (read means) goal → goal < n → Turning (set clear goal first)
-  run_starts n clear first e f s l = rw (e, f, s) (begins (read means) (lawful means keeps) (restricted al (plan_of p)) goal (omega arith))
+  run_starts n clear first e f s l = rw (e, f, s) (begins (read means) (lawful means keeps) (restricted al p) goal (omega arith))
 
   module _ (ms : List Mark) (inv : Turning ms) (o : Option ℕ) (best : BestOpen (read means) ms 0 (length ms) o) where
     module _ (u : ℕ) (is : o ≡ Some u) where
@@ -67,29 +67,29 @@ module _ (means : Meaning) (keeps : Laws (read means)) (al : List Bool) (p : Pla
       pick = picked (read means) ms 0 (length ms) u o is best
 
       pub run-below : u < length ms
-      run-below = turn_below (read means) (lawful means keeps) al (plan_of p) p.sound goal ms inv u pick
+      run-below = turn_below (read means) (lawful means keeps) al p (rules-keep p rules) goal ms inv u pick
 
       pub run_room : (at ms u).hops < 512
-      run_room = (let r = turn_room (read means) (lawful means keeps) al (plan_of p) p.sound goal ms inv u pick in let small = p.small in omega arith)
+      run_room = (let r = turn_room (read means) (lawful means keeps) al p (rules-keep p rules) goal ms inv u pick in let small = rules.few_pits in omega arith)
 
-      pub run-turn : (end : List Mark) → end ≡ turned (read means) al (plan_of p).ducts u ms → Turning end × (left end < left ms)
-      run-turn end e = rw e (turn (read means) (lawful means keeps) al (plan_of p) p.sound goal ms inv u pick)
+      pub run-turn : (end : List Mark) → end ≡ turned (read means) al p.ducts u ms → Turning end × (left end < left ms)
+      run-turn end e = rw e (turn (read means) (lawful means keeps) al p (rules-keep p rules) goal ms inv u pick)
 
-    pub run_ends : o ≡ None → is_allowed al goal ≡ true → Filled (read means) al (plan_of p) goal ms
+    pub run_ends : o ≡ None → is_allowed al goal ≡ true → Filled (read means) al p goal ms
     run_ends none ok =
-        let r = restricted al (plan_of p) in
-        let found = searched (read means) (lawful means keeps) r goal ms inv (none_open (read means) ms (length ms) o none best) (inside-keep al p.pits (plan_of p).ducts p.sound) in
+        let r = restricted al p in
+        let found = searched (read means) (lawful means keeps) r goal ms inv (none_open (read means) ms (length ms) o none best) (inside-keep al p.pits p.ducts (rules-keep p rules)) in
         record {
-          searched = searched-through (read means) (lawful means keeps) al (plan_of p) goal p.sound ms ok inv.kept.size found;
+          searched = searched-through (read means) (lawful means keeps) al p goal (rules-keep p rules) ms ok inv.kept.size found;
           linked = linked (read means) (lawful means keeps) r goal ms inv;
           brief = brief (read means) (lawful means keeps) r goal ms inv;
         }
 
   -- nothing is reached where the goal is not allowed
-  pub run_off : (n : ℕ) (ms : List Mark) → ms ≡ none_seen n → n ≡ p.pits → goal < n → is_allowed al goal ≡ false → Filled (read means) al (plan_of p) goal ms
+  pub run_off : (n : ℕ) (ms : List Mark) → ms ≡ none_seen n → n ≡ p.pits → goal < n → is_allowed al goal ≡ false → Filled (read means) al p goal ms
   run_off n ms e f l off =
       record {
-        searched = searched-off (read means) (lawful means keeps) al (plan_of p) goal p.sound ms off (omega arith) (unseen-size n ms e ∙ f) (unseen-cost n ms e);
+        searched = searched-off (read means) (lawful means keeps) al p goal (rules-keep p rules) ms off (omega arith) (unseen-size n ms e ∙ f) (unseen-cost n ms e);
         linked = unseen-linked n ms e;
         brief = unseen-brief n ms e;
       }

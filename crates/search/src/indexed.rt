@@ -1,4 +1,5 @@
-ghost use Rattle.std.specs.Prelude.{◌≡◌, length, take};
+ghost use Rattle.std.specs.Prelude.{◌≡◌, length};
+ghost use Rattle.plan.specs.Rules.{Rules};
 ghost use Rattle.search.specs.Index.{HeadsTo, LinksTo};
 
 use crate::links::Links;
@@ -13,8 +14,9 @@ pub struct IndexedPlan {
     pub plan: Plan,
     pub(crate) heads: [Option<u16>; PLACES],
     pub(crate) links: [Links; MAX_DUCTS],
+    ghost rules: { Rules plan },
     ghost wide: { length heads ≡ 512 },
     ghost long: { length links ≡ 1024 },
-    ghost starts: { HeadsTo (take plan.count plan.ducts) plan.count heads },
-    ghost chained: { LinksTo (take plan.count plan.ducts) plan.count links },
+    ghost starts: { HeadsTo plan.ducts (length plan.ducts) heads },
+    ghost chained: { LinksTo plan.ducts (length plan.ducts) links },
 }

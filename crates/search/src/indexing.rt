@@ -1,6 +1,5 @@
 // The index of a plan's ducts.
 ghost use Rattle.std.specs.Prelude.{◌≡◌, ◌<◌, length};
-ghost use Rattle.plan.specs.Plans.{plan_of};
 ghost use Rattle.search.specs.Index.{put_heads, put_links};
 ghost use Rattle.search.specs.Steps.{Within};
 
@@ -14,7 +13,7 @@ use plan::plans::Plan;
 impl IndexedPlan {
     // The plan with its index.
     pub fn new(plan: &Plan) -> IndexedPlan
-        ensures { plan_of result.plan ≡ plan_of plan.now }
+        ensures { result.plan ≡ plan.now }
     {
         index(plan)
     }
@@ -22,7 +21,7 @@ impl IndexedPlan {
 
 // The index, made duct by duct.
 fn index(plan: &Plan) -> IndexedPlan
-    ensures { plan_of result.plan ≡ plan_of plan.now }
+    ensures { result.plan ≡ plan.now }
 {
     let mut heads = [None; PLACES];
     let mut links = [Links::NONE; MAX_DUCTS];

@@ -48,7 +48,7 @@ fn run<M: Measure>(indexed: &IndexedPlan, allowed: &[bool], goal: u16, table: &m
     ensures searched { Searched (read M.Measure.means) allowed.now (plan_in indexed.now) goal (marks_of table.new) }
     ensures later { drop (plan_in indexed.now).pits table.new.marks ≡ drop (plan_in indexed.now).pits table.old.marks }
 {
-    let pits = indexed.plan.pits;
+    let pits = indexed.plan.pit_count();
     table.pits = pits;
     fill::<M>(indexed, allowed, goal, &mut table.marks[0..pits as usize]);
 }
@@ -77,7 +77,7 @@ fn goal_mark<M: Measure>(goal: u16) -> Mark
 {
     Mark {
         state: State::Open,
-        cost: M::still_cost(),
+        cost: M::STILL,
         next: goal,
         hops: 0,
     }

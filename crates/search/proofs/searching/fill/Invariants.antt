@@ -6,7 +6,7 @@ use Rattle.search.proofs.searching.fill.Given as goal
 
 abbrev pub invariant-loop-pit : goal.invariant-loop-pit
 invariant-loop-pit g l =
-    Turning g.M.Measure.means g.met.M.Measure.keeps l.allowed l.indexed.plan l.goal l.marks
+    Turning g.M.Measure.means g.met.M.Measure.keeps l.allowed l.indexed.plan l.indexed.rules l.goal l.marks
     × Tracks (read g.M.Measure.means) l.marks l.frontier.held
 
 -- each turn settles one pit

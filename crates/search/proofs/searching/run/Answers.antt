@@ -1,6 +1,5 @@
-use Rattle.std.proofs.Common.{sym, ◌∙◌, subst, arith}
+use Rattle.std.proofs.Common.{◌≡◌, ℕ, ◌-◌, ◌++◌, drop, sym, ◌∙◌, subst, arith}
 use Rattle.measure.specs.Meaning.{read}
-use Rattle.plan.specs.Plans.{plan_of}
 use Rattle.search.specs.Marks.{Linked, Brief}
 use Rattle.search.specs.Searched.{Searched}
 use Rattle.search.proofs.Codes.{filled_front, filled_length, filled_later}
@@ -8,24 +7,28 @@ use Rattle.search.proofs.searching.run.Goals as goal
 
 pub invariant_of-table : goal.invariant_of-table
 invariant_of-table g c =
-    let n = c.args.indexed.now.plan.pits in
-    let small = c.args.indexed.now.plan.small in
+    let n = c.pit_count-pits.result in
+    let same = c.pit_count-pits.ensures in
+    let small = c.args.indexed.now.rules.few_pits in
     let old = c.args.table.now.marks in
     let places = c.args.table.now.places in
-    let e = filled_front n c.fill.new.marks _ c.fill.ensures.searched.places in
+    let size = c.fill.ensures.searched.places ∙ sym same in
+    let e = filled_front n c.fill.new.marks _ size in
     record {
-      few = small;
-      places = filled_length n old c.fill.new.marks c.fill.ensures.searched.places (omega arith) ∙ places;
+      few = omega arith;
+      places = filled_length n old c.fill.new.marks size (omega arith) ∙ places;
       linked = subst Linked (sym e) c.fill.ensures.linked;
       brief = subst Brief (sym e) c.fill.ensures.brief;
     }
 
 pub returns : goal.returns
 returns g c =
-    let n = c.args.indexed.now.plan.pits in
-    let size = c.fill.ensures.searched.places in
-    let e = filled_front n c.fill.new.marks _ size in
+    let n = c.pit_count-pits.result in
+    let old = c.args.table.now.marks in
+    let new = c.fill.new.marks in
+    let size = c.fill.ensures.searched.places ∙ sym c.pit_count-pits.ensures in
+    let e = filled_front n new _ size in
     record {
-      searched = subst (Searched (read g.M.Measure.means) c.args.allowed.now (plan_of c.args.indexed.now.plan) c.args.goal) (sym e) c.fill.ensures.searched;
-      later = filled_later n c.args.table.now.marks c.fill.new.marks size;
+      searched = subst (Searched (read g.M.Measure.means) c.args.allowed.now c.args.indexed.now.plan c.args.goal) (sym e) c.fill.ensures.searched;
+      later = subst (λ (k : ℕ). drop k (new ++ drop (n - 0) old) ≡ drop k old) c.pit_count-pits.ensures (filled_later n old new size);
     }

@@ -12,7 +12,7 @@ loop-next-init g c =
 pub relax-requires : goal.relax-requires
 relax-requires g c =
     let size = c.requires.size in
-    let small = c.args.indexed.now.plan.small in
+    let small = c.args.indexed.now.rules.few_pits in
     let kept = c.loop-next.auto.marks in
     record {
       few = omega arith;
