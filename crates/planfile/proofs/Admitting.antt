@@ -1,5 +1,5 @@
 -- The questions on a file's ducts, one duct on.
-use Rattle.std.proofs.Common.{◌≡◌, ℕ, ◌+◌, ◌-◌, ◌<◌, ◌≤◌, true, false, not, ◌&&◌, leb, List, [], ◌∷◌, ◌++◌, length, get_or, take, drop, set, is_some, Ok, Err, Result, sym, refl, ap, ◌∙◌, arith}
+use Rattle.std.proofs.Common.{◌≡◌, ℕ, ◌+◌, ◌-◌, ◌<◌, ◌≤◌, true, false, not, ◌&&◌, leb, List, [], ◌∷◌, ◌++◌, length, get_or, take, drop, set, is_some, Ok, Err, Result, sym, refl, ap, subst, ◌∙◌, arith}
 use Rattle.std.proofs.lemmas.List.FromFn.{length-map-range_with_len}
 use Rattle.std.proofs.lemmas.List.{length-take-le, length-set, take_more_set}
 use Rattle.std.proofs.lemmas.Bool.{and_parts, leb-true, eqb-true}
@@ -10,7 +10,11 @@ use Rattle.plan.specs.Refusals.{Told, plain, placed}
 use Rattle.plan.specs.declared.ducts.Duct.{Duct}
 use Rattle.plan.proofs.Finding.{between-here, between_none}
 use Rattle.plan.proofs.Asking.{asked_yes, both_yes}
+use Rattle.plan.specs.Fields.{places_of, Holds}
+use Rattle.plan.specs.Rules.{Rules}
 use Rattle.plan.proofs.Editing.{laid_sound}
+use Rattle.plan.proofs.Filling.{places-push, fields-hold}
+use Rattle.plan.proofs.Ruling.{keep-rules}
 use Rattle.planfile.specs.Format.{file_size, duct_at, ducts_in}
 use Rattle.planfile.specs.Loading.{check_sizes, admit, as_plan, decode}
 use Rattle.planfile.specs.Words.{two}
@@ -41,16 +45,20 @@ sized bs h =
 pub record Admitting (bs : List ℕ) (pits count : ℕ) (ds left : List Duct) : Type 0 where
   pub answer : as_plan pits (admit pits (take count ds) left) ≡ decode bs
   pub few : count + length left ≤ 1024
-  pub places : length ds ≡ 1024
+  pub small : pits ≤ 512
+  pub long : length ds ≡ 1024
+  -- the places after the first `count` hold no duct
+  pub places : ds ≡ places_of (take count ds)
   pub keeps : ducts_keep pits (take count ds) ≡ true
 
 pub admit-begins :
-    (bs : List ℕ) (pits n : ℕ) (ds left : List Duct) → Ok tt ≡ check_sizes bs → pits ≡ two bs 0 → n ≡ two bs 2 → left ≡ ducts_in bs n → length ds ≡ 1024
+    (bs : List ℕ) (pits n : ℕ) (ds left : List Duct) → Ok tt ≡ check_sizes bs → pits ≡ two bs 0 → n ≡ two bs 2 → left ≡ ducts_in bs n → ds ≡ places_of []
     → Admitting bs pits 0 ds left
 unfolding ducts_keep
-admit-begins bs pits n ds left ok p m l long =
+admit-begins bs pits n ds left ok p m l none =
     let s = sized bs (sym ok) in
     let few = s.few_ducts in
+    let pits-few = s.few_pits in
     let whole = ap length l ∙ length-map-range_with_len (duct_at _ _) 0 n in
     record {
       answer =
@@ -58,16 +66,30 @@ admit-begins bs pits n ds left ok p m l long =
           ∙ ap (λ k. as_plan k (admit k [] (ducts_in bs (two bs 2)))) p
           ∙ ap (λ v. and_then v (as_plan (two bs 0) (admit (two bs 0) [] (ducts_in bs (two bs 2))))) ok;
       few = omega arith;
-      places = long;
+      small = omega arith;
+      long = ap length none;
+      places = none;
       keeps = refl;
     }
 
 module _ {bs : List ℕ} {pits count : ℕ} {ds left : List Duct} (inv : Admitting bs pits count ds left) where
   room : count ≤ length ds
-  room = let few = inv.few in let places = inv.places in omega arith
+  room = let few = inv.few in let long = inv.long in omega arith
 
-  long : length (take count ds) ≡ count
-  long = length-take-le count ds room
+  taken : length (take count ds) ≡ count
+  taken = length-take-le count ds room
+
+  -- the plan of the ducts so far
+  abbrev pub admitted : PlanSpec
+  admitted = record { pits = pits; ducts = take count ds }
+
+  pub admitted-rules : Rules admitted
+  admitted-rules = keep-rules admitted inv.small (let few = inv.few in let long = taken in omega arith) inv.keeps
+
+  pub admitted-holds : Holds (record { pits = pits; count = count; ducts = ds })
+  admitted-holds =
+      subst (λ n. Holds (record { pits = pits; count = n; ducts = ds })) taken
+      (subst (λ xs. Holds (record { pits = pits; count = length (take count ds); ducts = xs })) (sym inv.places) (fields-hold admitted admitted-rules))
 
   -- d is the next duct
   module _ {d : Duct} {rest : List Duct} (next : left ≡ d ∷ rest) where
@@ -78,7 +100,7 @@ module _ {bs : List ℕ} {pits count : ℕ} {ds left : List Duct} (inv : Admitti
     asked : after (check_duct pits count d) (check_repeat (take count ds) count d) ≡ decode bs
     unfolding after
     asked =
-        sym (ap (λ k. after (check_duct pits k d) (check_repeat (take count ds) k d)) long)
+        sym (ap (λ k. after (check_duct pits k d) (check_repeat (take count ds) k d)) taken)
         ∙ sym (ap (λ xs. as_plan pits (admit pits (take count ds) xs)) next)
         ∙ inv.answer
 
@@ -94,9 +116,10 @@ module _ {bs : List ℕ} {pits count : ℕ} {ds left : List Duct} (inv : Admitti
     unfolding after
     admit-more ok new =
         let few = inv.few in
-        let places = inv.places in
+        let whole = inv.long in
         let one = ap length next in
         let here : count < length ds = omega arith in
+        let short : length (take count ds) < 1024 = let l = taken in omega arith in
         record {
           answer =
               ap (λ xs. as_plan pits (admit pits xs rest)) (take_more_set ds count d here)
@@ -104,7 +127,13 @@ module _ {bs : List ℕ} {pits count : ℕ} {ds left : List Duct} (inv : Admitti
               ∙ ap (λ v. after v (check_repeat (take count ds) count d)) ok
               ∙ asked;
           few = omega arith;
-          places = length-set ds count d ∙ places;
+          small = inv.small;
+          long = length-set ds count d ∙ whole;
+          places =
+              ap (λ xs. set xs count d) inv.places
+              ∙ ap (λ n. set (places_of (take count ds)) n d) (sym taken)
+              ∙ places-push (take count ds) d short
+              ∙ ap places_of (sym (take_more_set ds count d here));
           keeps = laid_sound pits count count ds d here inv.keeps (sym ok) (ap (λ t. asks (not t) (placed 8 count)) new);
         }
 

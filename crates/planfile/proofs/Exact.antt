@@ -1,16 +1,16 @@
 -- An accepted file is the file of its plan, byte by byte.
-use Rattle.std.proofs.Common.{◌≡◌, ℕ, zero, suc, ◌+◌, ◌-◌, ◌*◌, ◌/◌, ◌%◌, ◌<◌, ◌≤◌, List, [], ◌∷◌, ◌++◌, map, length, get_or, take, drop, Ok, Err, Result, sym, refl, ap, ◌∙◌, subst, arith, w8, Fits, MatchResult}
+use Rattle.std.proofs.Common.{◌≡◌, ℕ, zero, suc, ◌+◌, ◌-◌, ◌*◌, ◌/◌, ◌%◌, ◌<◌, ◌≤◌, List, [], ◌∷◌, ◌++◌, map, length, get_or, take, drop, Ok, Err, Result, sym, refl, ap, ◌∙◌, subst, arith, w8, Fits, IfOk, MatchResult}
 use Rattle.std.specs.List.{range_with_len, flat_map}
 use Rattle.std.proofs.lemmas.List.FromFn.{length-map-range_with_len}
 use Rattle.std.proofs.lemmas.List.{append_assoc, append-nil, drop_more, drop-drop, drop_all, take-append-drop, get_or-take, get_or-drop, length-take-le, length-drop}
 use Rattle.plan.specs.Edits.{check_duct, check_repeat}
 use Rattle.plan.specs.Plans.{PlanSpec}
-use Rattle.plan.specs.Refusals.{Told}
-use Rattle.plan.specs.declared.plans.Plan.{Plan}
+use Rattle.plan.specs.Rules.{Rules}
+use Rattle.plan.specs.Refusals.{Told, heard}
 use Rattle.plan.specs.declared.ducts.Duct.{Duct}
 use Rattle.plan.specs.declared.refusals.Refusal.{Refusal}
 use Rattle.plan.proofs.Asking.{not_both, both_yes}
-use Rattle.plan.proofs.Ruling.{plan-rules, rules-keep}
+use Rattle.plan.proofs.Ruling.{rules-keep}
 use Rattle.planfile.specs.Files.{FileOf, NoFile}
 use Rattle.planfile.proofs.Trip.{round_trip}
 use Rattle.planfile.specs.Format.{file_size, ends_of, sizes_of, encode, duct_at, ducts_from, ducts_in}
@@ -190,9 +190,9 @@ accepted_is_file bs p fit h =
 
 -- every answer, by the file alone
 pub judged :
-    (bs : List ℕ) → ((i : ℕ) → Fits w8 (get_or bs i 0)) → (r : Result Plan Refusal) → heard r ≡ decode bs → MatchResult r (λ p. FileOf p bs) (λ _. NoFile bs)
-judged bs fit (Ok p) h =
+    (bs : List ℕ) → ((i : ℕ) → Fits w8 (get_or bs i 0)) → (r : Result PlanSpec Refusal) → heard r ≡ decode bs → IfOk r Rules → MatchResult r (λ p. FileOf p bs) (λ _. NoFile bs)
+judged bs fit (Ok p) h rules =
     let f = accepted_is_file bs p (λ i below. (fit i).fits) (sym h) in
-    record { some = f.0; rules = plan-rules p; bytes = f.1 }
-judged bs fit (Err e) h = λ p f.
+    record { some = f.0; rules = rules; bytes = f.1 }
+judged bs fit (Err e) h rules = λ p f.
     not_both (h ∙ ap decode (sym f.bytes) ∙ round_trip p f.some f.rules.few_pits f.rules.few_ducts (rules-keep p f.rules))

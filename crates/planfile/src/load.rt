@@ -1,4 +1,5 @@
-ghost use Rattle.std.specs.Prelude.{◌≡◌, MatchResult};
+ghost use Rattle.std.specs.Prelude.{◌≡◌, IfOk, MatchResult};
+ghost use Rattle.plan.specs.Rules.{Rules};
 ghost use Rattle.plan.specs.Refusals.{heard};
 ghost use Rattle.planfile.specs.Files.{FileOf, NoFile};
 ghost use Rattle.planfile.specs.Loading.{check_sizes, decode, load_on};
@@ -32,7 +33,8 @@ fn check_sizes(bytes: &[u8]) -> Result<(), Refusal>
 
 // The plan of a file, or the first rule that the file breaks: questions 1 to 4, then 5 to 8 on each duct in turn.
 fn parse(bytes: &[u8]) -> Result<Plan, Refusal>
-    ensures { heard result ≡ decode bytes.now }
+    ensures answer { heard result ≡ decode bytes.now }
+    ensures rules { IfOk result Rules }
 {
     check_sizes(bytes)?;
     let pits = words::get_two(bytes, 0);

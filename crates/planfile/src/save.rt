@@ -44,8 +44,8 @@ fn put_file(plan: &Plan, buffer: &mut [u8])
     ensures back { decode (take (file_size (length plan.now.ducts)) buffer.new) ≡ Ok plan.now }
 {
     let ducts = plan.ducts();
-    words::put_two(buffer, 0, plan.pits);
-    words::put_two(buffer, 2, plan.count);
+    words::put_two(buffer, 0, plan.pit_count());
+    words::put_two(buffer, 2, ducts.len() as u16);
     put_ends(ducts, buffer, 4);
     put_sizes(ducts, buffer, 4 + 4 * ducts.len());
 }
@@ -57,7 +57,7 @@ pub fn save(plan: &Plan, buffer: &mut [u8]) -> Result<usize, Refusal>
     ensures bytes { buffer.new ≡ written (heard result) (encode plan.now) buffer.old }
     ensures back { IfOk result (λ n. decode (take n buffer.new) ≡ Ok plan.now) }
 {
-    if plan.pits < 1 {
+    if plan.pit_count() < 1 {
         return Err(Refusal::BlankPlan);
     }
     let size = 4 + 10 * plan.ducts().len();
