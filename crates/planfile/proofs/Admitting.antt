@@ -1,7 +1,7 @@
 -- The questions on a file's ducts, one duct on.
-use Rattle.std.proofs.Common.{◌≡◌, ℕ, ◌+◌, ◌-◌, ◌<◌, ◌≤◌, true, false, not, ◌&&◌, leb, List, [], ◌∷◌, ◌++◌, length, get_or, take, drop, set, is_some, Ok, Err, Result, sym, refl, ap, ◌∙◌, arith}
+use Rattle.std.proofs.Common.{◌≡◌, ℕ, ◌+◌, ◌<◌, ◌≤◌, true, false, not, ◌&&◌, leb, List, [], ◌∷◌, ◌++◌, length, get_or, take, drop, set, is_some, Ok, Err, Result, sym, refl, ap, ◌∙◌, arith}
 use Rattle.std.proofs.lemmas.List.FromFn.{length-map-range_with_len}
-use Rattle.std.proofs.lemmas.List.{length-take-le, length-set, take_more_set}
+use Rattle.std.proofs.lemmas.List.{length-take-le, length-set, take_more_set, nil_from_length}
 use Rattle.std.proofs.lemmas.Bool.{and_parts, leb-true, eqb-true}
 use Rattle.plan.specs.Ducts.{joins, between, ducts_keep}
 use Rattle.plan.specs.Edits.{Verdict, asks, and_then, check_duct, check_repeat}
@@ -37,86 +37,94 @@ sized bs h =
       exact = eqb-true (length bs) (file_size (two bs 2)) (asked_yes _ (plain 4) r.1);
     }
 
--- the ducts to come, after the first `count` of ds, give the answer of the whole file
-pub record Admitting (bs : List ℕ) (pits count : ℕ) (ds left : List Duct) : Type 0 where
-  pub answer : as_plan pits (admit pits (take count ds) left) ≡ decode bs
-  pub few : count + length left ≤ 1024
+-- the ducts to come, after the first `at` of ds, give the answer of the whole file, which has `count` ducts
+pub record Admitting (bs : List ℕ) (pits count at : ℕ) (ds left : List Duct) : Type 0 where
+  pub answer : as_plan pits (admit pits (take at ds) left) ≡ decode bs
+  pub few : count ≤ 1024
+  pub all : at + length left ≡ count
   pub places : length ds ≡ 1024
-  pub keeps : ducts_keep pits (take count ds) ≡ true
+  pub keeps : ducts_keep pits (take at ds) ≡ true
 
 pub admit-begins :
-    (bs : List ℕ) (pits n : ℕ) (ds left : List Duct) → Ok tt ≡ check_sizes bs → pits ≡ two bs 0 → n ≡ two bs 2 → left ≡ ducts_in bs n → length ds ≡ 1024
-    → Admitting bs pits 0 ds left
+    (bs : List ℕ) (pits count : ℕ) (ds left : List Duct) → Ok tt ≡ check_sizes bs → pits ≡ two bs 0 → count ≡ two bs 2 → left ≡ ducts_in bs count
+    → length ds ≡ 1024 → Admitting bs pits count 0 ds left
 unfolding ducts_keep
-admit-begins bs pits n ds left ok p m l long =
+admit-begins bs pits count ds left ok p m l long =
     let s = sized bs (sym ok) in
     let few = s.few_ducts in
-    let whole = ap length l ∙ length-map-range_with_len (duct_at _ _) 0 n in
+    let whole = ap length l ∙ length-map-range_with_len (duct_at _ _) 0 count in
     record {
       answer =
           ap (λ xs. as_plan pits (admit pits [] xs)) (l ∙ ap (ducts_in bs) m)
           ∙ ap (λ k. as_plan k (admit k [] (ducts_in bs (two bs 2)))) p
           ∙ ap (λ v. and_then v (as_plan (two bs 0) (admit (two bs 0) [] (ducts_in bs (two bs 2))))) ok;
       few = omega arith;
+      all = omega arith;
       places = long;
       keeps = refl;
     }
 
-module _ {bs : List ℕ} {pits count : ℕ} {ds left : List Duct} (inv : Admitting bs pits count ds left) where
-  room : count ≤ length ds
-  room = let few = inv.few in let places = inv.places in omega arith
+module _ {bs : List ℕ} {pits count at : ℕ} {ds left : List Duct} (inv : Admitting bs pits count at ds left) where
+  room : at ≤ length ds
+  room = let few = inv.few in let all = inv.all in let places = inv.places in omega arith
 
-  long : length (take count ds) ≡ count
-  long = length-take-le count ds room
+  long : length (take at ds) ≡ at
+  long = length-take-le at ds room
+
+  -- no duct is to come
+  pub admit-ends : count ≤ at → (Ok (record { pits = pits; ducts = take count ds }) ≡ decode bs) × (ducts_keep pits (take count ds) ≡ true)
+  admit-ends end =
+      let all = inv.all in
+      let e : at ≡ count = omega arith in
+      let none : left ≡ [] = nil_from_length left (omega arith) in
+      rw (← e) (sym (ap (λ xs. as_plan pits (admit pits (take at ds) xs)) none) ∙ inv.answer, inv.keeps)
 
   -- d is the next duct
   module _ {d : Duct} {rest : List Duct} (next : left ≡ d ∷ rest) where
     after : Verdict → Verdict → Result PlanSpec Told
-    after v w = as_plan pits (and_then v (and_then w (admit pits (take count ds ++ d ∷ []) rest)))
+    after v w = as_plan pits (and_then v (and_then w (admit pits (take at ds ++ d ∷ []) rest)))
 
     -- the two questions on d, as the code asks them
-    asked : after (check_duct pits count d) (check_repeat (take count ds) count d) ≡ decode bs
+    asked : after (check_duct pits at d) (check_repeat (take at ds) at d) ≡ decode bs
     unfolding after
     asked =
-        sym (ap (λ k. after (check_duct pits k d) (check_repeat (take count ds) k d)) long)
-        ∙ sym (ap (λ xs. as_plan pits (admit pits (take count ds) xs)) next)
+        sym (ap (λ k. after (check_duct pits k d) (check_repeat (take at ds) k d)) long)
+        ∙ sym (ap (λ xs. as_plan pits (admit pits (take at ds) xs)) next)
         ∙ inv.answer
 
-    pub admit-repeats : Ok tt ≡ check_duct pits count d → is_some (between (take count ds) d.first d.second) ≡ true → Err (placed 8 count) ≡ decode bs
+    pub admit-repeats : Ok tt ≡ check_duct pits at d → is_some (between (take at ds) d.first d.second) ≡ true → Err (placed 8 at) ≡ decode bs
     unfolding after
     admit-repeats ok old =
-        sym (ap (λ t. after (Ok tt) (asks (not t) (placed 8 count))) old)
-        ∙ ap (λ v. after v (check_repeat (take count ds) count d)) ok
+        sym (ap (λ t. after (Ok tt) (asks (not t) (placed 8 at))) old)
+        ∙ ap (λ v. after v (check_repeat (take at ds) at d)) ok
         ∙ asked
 
     pub admit-more :
-        Ok tt ≡ check_duct pits count d → is_some (between (take count ds) d.first d.second) ≡ false → Admitting bs pits (count + 1) (set ds count d) rest
+        Ok tt ≡ check_duct pits at d → is_some (between (take at ds) d.first d.second) ≡ false → Admitting bs pits count (at + 1) (set ds at d) rest
     unfolding after
     admit-more ok new =
         let few = inv.few in
+        let all = inv.all in
         let places = inv.places in
         let one = ap length next in
-        let here : count < length ds = omega arith in
+        let here : at < length ds = omega arith in
         record {
           answer =
-              ap (λ xs. as_plan pits (admit pits xs rest)) (take_more_set ds count d here)
-              ∙ sym (ap (λ t. after (Ok tt) (asks (not t) (placed 8 count))) new)
-              ∙ ap (λ v. after v (check_repeat (take count ds) count d)) ok
+              ap (λ xs. as_plan pits (admit pits xs rest)) (take_more_set ds at d here)
+              ∙ sym (ap (λ t. after (Ok tt) (asks (not t) (placed 8 at))) new)
+              ∙ ap (λ v. after v (check_repeat (take at ds) at d)) ok
               ∙ asked;
-          few = omega arith;
-          places = length-set ds count d ∙ places;
-          keeps = laid_sound pits count count ds d here inv.keeps (sym ok) (ap (λ t. asks (not t) (placed 8 count)) new);
+          few = few;
+          all = omega arith;
+          places = length-set ds at d ∙ places;
+          keeps = laid_sound pits at at ds d here inv.keeps (sym ok) (ap (λ t. asks (not t) (placed 8 at)) new);
         }
 
--- the earlier ducts, as the slice of them is cut, and whether one joins the pits a and b
-pub no_repeat : (ds : List Duct) (n a b i : ℕ) → length (take (n - 0) ds) ≤ i
-    → between (drop i (take (n - 0) ds)) a b ≡ between (take (n - 0) ds) a b → is_some (between (take n ds) a b) ≡ false
-no_repeat ds n a b i all inv =
-    let cut : n - 0 ≡ n = omega arith in
-    ap (λ k. is_some (between (take k ds) a b)) (sym cut) ∙ ap is_some (sym inv ∙ between_none (take (n - 0) ds) a b i all)
+-- whether one of the ducts, those before i passed over, joins the pits a and b
+pub no_repeat : (ds : List Duct) (a b i : ℕ) → length ds ≤ i → between (drop i ds) a b ≡ between ds a b → is_some (between ds a b) ≡ false
+no_repeat ds a b i all inv = ap is_some (sym inv ∙ between_none ds a b i all)
 
-pub some-repeat : (ds : List Duct) (n a b i : ℕ) (z : Duct) → i < length (take (n - 0) ds) → joins (get_or (take (n - 0) ds) i z) a b ≡ true
-    → between (drop i (take (n - 0) ds)) a b ≡ between (take (n - 0) ds) a b → is_some (between (take n ds) a b) ≡ true
-some-repeat ds n a b i z here same inv =
-    let cut : n - 0 ≡ n = omega arith in
-    ap (λ k. is_some (between (take k ds) a b)) (sym cut) ∙ ap is_some (sym inv ∙ between-here (take (n - 0) ds) a b i z here same)
+pub some-repeat :
+    (ds : List Duct) (a b i : ℕ) (z : Duct) → i < length ds → joins (get_or ds i z) a b ≡ true → between (drop i ds) a b ≡ between ds a b
+    → is_some (between ds a b) ≡ true
+some-repeat ds a b i z here same inv = ap is_some (sym inv ∙ between-here ds a b i z here same)

@@ -4,7 +4,8 @@ ghost use Rattle.plan.specs.Refusals.{heard};
 ghost use Rattle.planfile.specs.Files.{FileOf, NoFile};
 ghost use Rattle.planfile.specs.Loading.{check_sizes, decode, load_on};
 
-use crate::{steps, words};
+use crate::reader::Reader;
+use crate::words;
 use plan::ducts::Duct;
 use plan::limits::{MAX_DUCTS, MAX_PITS};
 use plan::plans::Plan;
@@ -37,25 +38,20 @@ fn parse(bytes: &[u8]) -> Result<Plan, Refusal>
 {
     check_sizes(bytes)?;
     let pits = words::get_two(bytes, 0);
-    let mut reader = steps::open(bytes, words::get_two(bytes, 2) as usize);
+    let count = words::get_two(bytes, 2);
     let mut ducts = [Duct::UNUSED; MAX_DUCTS];
-    let mut count: u16 = 0;
-    let mut repeated = false;
-    'ducts: while let Some(duct) = reader.next() {
-        duct.check(pits, count)?;
-        for earlier in &ducts[0..count as usize] {
-            if earlier.joins(duct.first, duct.second) {
-                repeated = true;
-                break 'ducts;
+    'ducts: {
+        for (place, duct) in (0..count).zip(Reader::open(bytes, count as usize)) {
+            duct.check(pits, place)?;
+            for earlier in &ducts[..place as usize] {
+                if earlier.joins(duct.first, duct.second) {
+                    break 'ducts Err(Refusal::Repeat { place });
+                }
             }
+            ducts[place as usize] = duct;
         }
-        ducts[count as usize] = duct;
-        count += 1;
+        Ok(Plan { pits, count, ducts })
     }
-    if repeated {
-        return Err(Refusal::Repeat { place: count });
-    }
-    Ok(Plan { pits, count, ducts })
 }
 
 // What `parse` gives. An accepted file is the file of the plan that it gives, byte by byte, and a refused one is the file
