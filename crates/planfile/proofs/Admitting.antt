@@ -12,7 +12,8 @@ use Rattle.plan.proofs.Finding.{between-here, between_none}
 use Rattle.plan.proofs.Asking.{asked_yes, both_yes}
 use Rattle.plan.proofs.Editing.{laid_sound}
 use Rattle.planfile.specs.Format.{file_size, duct_at, ducts_in}
-use Rattle.planfile.specs.Loading.{check_sizes, admit, as_plan, decode}
+use Rattle.planfile.specs.Loading.{check_sizes, sizes_in, admit, as_plan, decode}
+use Rattle.planfile.specs.declared.load.Sizes.{Sizes}
 use Rattle.planfile.specs.Words.{two}
 
 -- a file whose sizes got a yes
@@ -46,23 +47,25 @@ pub record Admitting (bs : List ℕ) (pits count at : ℕ) (ds left : List Duct)
   pub keeps : ducts_keep pits (take at ds) ≡ true
 
 pub admit-begins :
-    (bs : List ℕ) (pits count : ℕ) (ds left : List Duct) → Ok tt ≡ check_sizes bs → pits ≡ two bs 0 → count ≡ two bs 2 → left ≡ ducts_in bs count
-    → length ds ≡ 1024 → Admitting bs pits count 0 ds left
+    (bs : List ℕ) (s : Sizes) (ds left : List Duct) → Ok s ≡ and_then (check_sizes bs) (Ok (sizes_in bs)) → left ≡ ducts_in bs s.count → length ds ≡ 1024
+    → Admitting bs s.pits s.count 0 ds left
 unfolding ducts_keep
-admit-begins bs pits count ds left ok p m l long =
-    let s = sized bs (sym ok) in
-    let few = s.few_ducts in
-    let whole = ap length l ∙ length-map-range_with_len (duct_at _ _) 0 count in
-    record {
+admit-begins bs s ds left ok l long =
+    let yes = both_yes (check_sizes bs) (Ok (sizes_in bs)) s (sym ok) in
+    let e : s ≡ sizes_in bs = cc in
+    let few = (sized bs yes.0).few_ducts in
+    let all : left ≡ ducts_in bs (two bs 2) = l ∙ ap (λ t. ducts_in bs t.count) e in
+    let count = ap length all ∙ length-map-range_with_len (duct_at _ _) 0 (two bs 2) in
+    rw e
+    (record {
       answer =
-          ap (λ xs. as_plan pits (admit pits [] xs)) (l ∙ ap (ducts_in bs) m)
-          ∙ ap (λ k. as_plan k (admit k [] (ducts_in bs (two bs 2)))) p
-          ∙ ap (λ v. and_then v (as_plan (two bs 0) (admit (two bs 0) [] (ducts_in bs (two bs 2))))) ok;
-      few = omega arith;
+          ap (λ xs. as_plan (two bs 0) (admit (two bs 0) [] xs)) all
+          ∙ sym (ap (λ v. and_then v (as_plan (two bs 0) (admit (two bs 0) [] (ducts_in bs (two bs 2))))) yes.0);
+      few = few;
       all = omega arith;
       places = long;
       keeps = refl;
-    }
+    })
 
 module _ {bs : List ℕ} {pits count at : ℕ} {ds left : List Duct} (inv : Admitting bs pits count at ds left) where
   room : at ≤ length ds
@@ -72,8 +75,8 @@ module _ {bs : List ℕ} {pits count at : ℕ} {ds left : List Duct} (inv : Admi
   long = length-take-le at ds room
 
   -- no duct is to come
-  pub admit-ends : count ≤ at → (Ok (record { pits = pits; ducts = take count ds }) ≡ decode bs) × (ducts_keep pits (take count ds) ≡ true)
-  admit-ends end =
+  pub admit-ends : (end : ℕ) → end ≡ count → end ≤ at → (Ok (record { pits = pits; ducts = take count ds }) ≡ decode bs) × (ducts_keep pits (take count ds) ≡ true)
+  admit-ends end h k =
       let all = inv.all in
       let e : at ≡ count = omega arith in
       let none : left ≡ [] = nil_from_length left (omega arith) in

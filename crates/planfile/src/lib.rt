@@ -6,4 +6,4 @@
 pub mod load;
 mod reader;
 pub mod save;
-mod words;
+mod writer;

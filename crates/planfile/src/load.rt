@@ -1,44 +1,48 @@
-ghost use Rattle.std.specs.Prelude.{◌≡◌, MatchResult};
+ghost use Rattle.std.specs.Prelude.{◌≡◌, MatchResult, Ok};
+ghost use Rattle.plan.specs.Edits.{and_then};
 ghost use Rattle.plan.specs.Plans.{plan_of, heard_plan};
 ghost use Rattle.plan.specs.Refusals.{heard};
 ghost use Rattle.planfile.specs.Files.{FileOf, NoFile};
-ghost use Rattle.planfile.specs.Loading.{check_sizes, decode, load_on};
+ghost use Rattle.planfile.specs.Loading.{check_sizes, sizes_in, decode, load_on};
 
 use crate::reader::Reader;
-use crate::words;
 use plan::ducts::Duct;
 use plan::limits::{MAX_DUCTS, MAX_PITS};
 use plan::plans::Plan;
 use plan::refusals::Refusal;
 
+// The sizes that a file has first: its pit count and its duct count.
+struct Sizes {
+    pits: u16,
+    count: u16,
+}
+
 // Questions 1 to 4 on the file as a whole: 4 bytes, the pit count, the duct count, the exact size.
-fn check_sizes(bytes: &[u8]) -> Result<(), Refusal>
-    ensures { heard result ≡ check_sizes bytes.now }
+fn check_sizes(bytes: &[u8]) -> Result<Sizes, Refusal>
+    ensures { heard result ≡ and_then (check_sizes bytes.now) (Ok (sizes_in bytes.now)) }
 {
-    if bytes.len() < 4 {
+    let [a, b, c, d, ..] = bytes else {
         return Err(Refusal::ShortFile);
-    }
-    let pits = words::get_two(bytes, 0);
+    };
+    let pits = u16::from_le_bytes([*a, *b]);
+    let count = u16::from_le_bytes([*c, *d]);
     if pits < 1 || pits > MAX_PITS {
         return Err(Refusal::PitCount);
     }
-    let count = words::get_two(bytes, 2) as usize;
-    if count > MAX_DUCTS {
+    if count as usize > MAX_DUCTS {
         return Err(Refusal::DuctCount);
     }
-    if bytes.len() != 4 + 10 * count {
+    if bytes.len() != 4 + 10 * count as usize {
         return Err(Refusal::FileSize);
     }
-    Ok(())
+    Ok(Sizes { pits, count })
 }
 
 // The plan of a file, or the first rule that the file breaks: questions 1 to 4, then 5 to 8 on each duct in turn.
 fn parse(bytes: &[u8]) -> Result<Plan, Refusal>
     ensures { heard_plan result ≡ decode bytes.now }
 {
-    check_sizes(bytes)?;
-    let pits = words::get_two(bytes, 0);
-    let count = words::get_two(bytes, 2);
+    let Sizes { pits, count } = check_sizes(bytes)?;
     let mut ducts = [Duct::UNUSED; MAX_DUCTS];
     'ducts: {
         for (place, duct) in (0..count).zip(Reader::open(bytes, count as usize)) {

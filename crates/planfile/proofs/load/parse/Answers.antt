@@ -11,7 +11,7 @@ loop-place-init c =
     rw (whole, first, second)
     (record {
       places = refl;
-      answer = admit-begins _ _ _ _ _ c.in_ok-check_sizes.ensures c.get_two-pits.ensures c.get_two-count.ensures c.open.ensures (search rules);
+      answer = admit-begins _ _ _ _ c.in_ok-pits.ensures c.open.ensures (search rules);
     })
 
 pub loop-earlier-preserved : goal.loop-earlier-preserved
@@ -28,15 +28,15 @@ loop-place-preserved c =
 
 pub invariant_of-result-clause-sound : goal.invariant_of-result-clause-sound
 invariant_of-result-clause-sound c =
-    let ended : c.get_two-count.result ≤ c.loop-place.place-iterator.a.start =
+    let ended : c.loop-place.place-iterator.a.end ≤ c.loop-place.place-iterator.a.start =
     elim c.in-None.ensures.steps [ inl r ↦ omega arith | inr r ↦ let none = ap length r.1.0 in omega arith ] in
-    (admit-ends c.loop-place.invariant.answer ended).1
+    (admit-ends c.loop-place.invariant.answer _ c.loop-place.invariant.places ended).1
 
 pub returns-in-None : goal.returns-in-None
 returns-in-None c =
-    let ended : c.get_two-count.result ≤ c.loop-place.place-iterator.a.start =
+    let ended : c.loop-place.place-iterator.a.end ≤ c.loop-place.place-iterator.a.start =
     elim c.in-None.ensures.steps [ inl r ↦ omega arith | inr r ↦ let none = ap length r.1.0 in omega arith ] in
-    (admit-ends c.loop-place.invariant.answer ended).0
+    (admit-ends c.loop-place.invariant.answer _ c.loop-place.invariant.places ended).0
 
 pub returns-then-joins : goal.returns-then-joins
 returns-then-joins c =

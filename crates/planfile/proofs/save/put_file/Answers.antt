@@ -1,13 +1,22 @@
-use Rattle.std.proofs.Common.{sym}
-use Rattle.plan.proofs.Ruling.{length-ducts}
+use Rattle.std.proofs.Common.{rules, ◌∙◌}
 use Rattle.plan.specs.Plans.{plan_of}
-use Rattle.planfile.proofs.Saved.{save_writes, save_back}
+use Rattle.planfile.proofs.Arrays.{file_put}
+use Rattle.planfile.proofs.Saved.{save_back}
 use Rattle.planfile.proofs.save.put_file.Goals as goal
 
-pub returns : goal.returns
-returns c =
-    let p = c.args.plan.now in
-    let bytes =
-    save_writes (plan_of p) c.args.buffer.now _ _ _ _ p.count _ c.requires.room c.ducts-ducts.ensures.list (sym (length-ducts p)) c.put_two.ensures c.put_two-2.ensures
-    c.put_ends.ensures c.put_sizes.ensures in
-    record { bytes = bytes; back = save_back (plan_of p) c.args.buffer.now c.put_sizes.new.buffer bytes c.requires.some p.small c.ducts-ducts.ensures.rules.few_ducts p.sound }
+pub returns-clause-bytes : goal.returns-clause-bytes
+returns-clause-bytes c =
+    let list = c.ducts-ducts.ensures.list in
+    let front = c.new-front.ensures.bytes ∙ (rw list at c.split_at_mut-front.ensures.front) in
+    let back = c.new-sizes.ensures.bytes ∙ (rw list at c.split_at_mut-front.ensures.back) in
+    let e1 = rw (c.new-front.ensures.front, c.to_le_bytes.ensures, c.pit_count.ensures) at c.put.ensures.bytes in
+    let e2 = rw (c.put.ensures.after, c.new-front.ensures.front, c.to_le_bytes-2.ensures, list) at c.put-2.ensures.bytes in
+    let e3 = rw (c.put-2.ensures.after, c.put.ensures.after, c.new-front.ensures.front, list) at c.put_ducts.ensures.ends in
+    let e4 = rw (c.new-sizes.ensures.front, list) at c.put_ducts.ensures.sizes in
+    let bytes = file_put (plan_of c.args.plan.now) c.args.buffer.now _ _ _ _ _ _ c.requires.room front back e1 e2 e3 e4 in
+    search rules
+
+pub returns-clause-back : goal.returns-clause-back
+returns-clause-back c =
+    let rules = c.ducts-ducts.ensures.rules in
+    save_back (plan_of c.args.plan.now) c.args.buffer.now _ (returns-clause-bytes c) c.requires.some rules
