@@ -1,5 +1,5 @@
 -- The questions on a file's ducts, one duct on.
-use Rattle.std.proofs.Common.{◌≡◌, ℕ, ◌+◌, ◌<◌, ◌≤◌, true, false, not, ◌&&◌, leb, List, [], ◌∷◌, ◌++◌, length, get_or, take, drop, set, is_some, Ok, Err, Result, sym, refl, ap, ◌∙◌, arith}
+use Rattle.std.proofs.Common.{◌≡◌, ℕ, ◌+◌, ◌<◌, ◌≤◌, true, false, not, ◌&&◌, leb, List, [], ◌∷◌, ◌++◌, length, get_or, take, drop, set, ◌⊎◌, inl, inr, is_some, Ok, Err, Result, sym, refl, ap, ◌∙◌, arith}
 use Rattle.std.proofs.lemmas.List.FromFn.{length-map-range_with_len}
 use Rattle.std.proofs.lemmas.List.{length-take-le, length-set, take_more_set, nil_from_length}
 use Rattle.std.proofs.lemmas.Bool.{and_parts, leb-true, eqb-true}
@@ -74,13 +74,15 @@ module _ {bs : List ℕ} {pits count at : ℕ} {ds left : List Duct} (inv : Admi
   long : length (take at ds) ≡ at
   long = length-take-le at ds room
 
-  -- no duct is to come
-  pub admit-ends : (end : ℕ) → end ≡ count → end ≤ at → (Ok (record { pits = pits; ducts = take count ds }) ≡ decode bs) × (ducts_keep pits (take count ds) ≡ true)
-  admit-ends end h k =
+  -- the places or the ducts to come have ended, and so have both
+  pub admit-ends :
+      {A B : Type 0} (end : ℕ) → end ≡ count → A ⊎ B → (A → end ≤ at) → (B → left ≡ [])
+      → (Ok (record { pits = pits; ducts = take count ds }) ≡ decode bs) × (ducts_keep pits (take count ds) ≡ true)
+  admit-ends end h ended places none =
       let all = inv.all in
-      let e : at ≡ count = omega arith in
-      let none : left ≡ [] = nil_from_length left (omega arith) in
-      rw (← e) (sym (ap (λ xs. as_plan pits (admit pits (take at ds) xs)) none) ∙ inv.answer, inv.keeps)
+      let e : at ≡ count = elim ended [ inl a ↦ let past = places a in omega arith | inr b ↦ let few = ap length (none b) in omega arith ] in
+      let nil : left ≡ [] = nil_from_length left (omega arith) in
+      rw (← e) (sym (ap (λ xs. as_plan pits (admit pits (take at ds) xs)) nil) ∙ inv.answer, inv.keeps)
 
   -- d is the next duct
   module _ {d : Duct} {rest : List Duct} (next : left ≡ d ∷ rest) where

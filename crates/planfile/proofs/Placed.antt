@@ -1,18 +1,11 @@
 -- Bytes written part after part, as one part put over the old bytes.
-use Rattle.std.proofs.Common.{◌≡◌, ℕ, ◌+◌, ◌≤◌, List, [], ◌++◌, length, take, drop, sym, ap, ◌∙◌, add-zero, arith}
+use Rattle.std.proofs.Common.{◌≡◌, ℕ, ◌+◌, ◌≤◌, List, ◌++◌, length, take, drop, sym, ap, ◌∙◌, arith}
 use lib.Seq.{drop-append-add}
-use Rattle.std.proofs.lemmas.List.{length-append, length-take-le, take_at, drop-drop, append_assoc, append-nil, take-append-drop, drop_all}
+use Rattle.std.proofs.lemmas.List.{length-append, length-take-le, take_at, drop-drop, append_assoc, append-nil, drop_all}
 use Rattle.planfile.specs.Words.{over}
 
--- nothing put over the old bytes
-pub over_none : (bs : List ℕ) (at : ℕ) → bs ≡ over bs at []
-over_none bs at =
-    sym (take-append-drop at bs)
-    ∙ ap (λ k. take at bs ++ drop k bs) (sym (add-zero at))
-    ∙ ap (λ xs. xs ++ drop (at + 0) bs) (sym (append-nil (take at bs)))
-
 -- two parts, one after the other
-pub over-over :
+over-over :
     (bs xs ys : List ℕ) (at n : ℕ) → at + length xs ≤ length bs → at + length xs ≡ n → over (over bs at xs) n ys ≡ over bs at (xs ++ ys)
 over-over bs xs ys at n h e =
     let front : length (take at bs ++ xs) ≡ n = length-append (take at bs) xs ∙ ap (λ k. k + length xs) (length-take-le at bs (omega arith)) ∙ e in

@@ -48,4 +48,4 @@ pub ducts-step :
 ducts-step es ss h =
     let left = length-drop 4 es in
     let e : length es / 4 ≡ suc (length (drop 4 es) / 4) = omega arith in
-    rw (take_rest, take_rest, e) (ducts-more es ss (length (drop 4 es) / 4))
+    rw (take_rest es 4, take_rest ss 6, e) (ducts-more es ss (length (drop 4 es) / 4))

@@ -4,9 +4,9 @@ ghost use Rattle.planfile.specs.Words.{over};
 
 #[derive(Drop)]
 pub(crate) struct Writer<'a> {
-    pub(crate) buffer: &'a mut [u8],
+    buffer: &'a mut [u8],
     // where the next byte goes
-    pub(crate) at: usize,
+    at: usize,
 }
 
 impl<'a> Writer<'a> {

@@ -1,4 +1,4 @@
-use Rattle.std.proofs.Common.{sym, ap, length, inl, inr, refl, ◌∙◌, rules, arith, ◌≤◌}
+use Rattle.std.proofs.Common.{sym, refl, ◌∙◌, rules, arith}
 use Rattle.plan.proofs.Finding.{between-on}
 use Rattle.planfile.proofs.Admitting.{admit-begins, admit-ends, admit-repeats, admit-more, no_repeat, some-repeat}
 use Rattle.planfile.proofs.load.parse.Goals as goal
@@ -27,16 +27,10 @@ loop-place-preserved c =
     }
 
 pub invariant_of-result-clause-sound : goal.invariant_of-result-clause-sound
-invariant_of-result-clause-sound c =
-    let ended : c.loop-place.place-iterator.a.end ≤ c.loop-place.place-iterator.a.start =
-    elim c.in-None.ensures.steps [ inl r ↦ omega arith | inr r ↦ let none = ap length r.1.0 in omega arith ] in
-    (admit-ends c.loop-place.invariant.answer _ c.loop-place.invariant.places ended).1
+invariant_of-result-clause-sound c = (admit-ends c.loop-place.invariant.answer _ c.loop-place.invariant.places c.in-None.ensures.steps (λ r. omega arith) (λ r. r.1.0)).1
 
 pub returns-in-None : goal.returns-in-None
-returns-in-None c =
-    let ended : c.loop-place.place-iterator.a.end ≤ c.loop-place.place-iterator.a.start =
-    elim c.in-None.ensures.steps [ inl r ↦ omega arith | inr r ↦ let none = ap length r.1.0 in omega arith ] in
-    (admit-ends c.loop-place.invariant.answer _ c.loop-place.invariant.places ended).0
+returns-in-None c = (admit-ends c.loop-place.invariant.answer _ c.loop-place.invariant.places c.in-None.ensures.steps (λ r. omega arith) (λ r. r.1.0)).0
 
 pub returns-then-joins : goal.returns-then-joins
 returns-then-joins c =
