@@ -1,7 +1,7 @@
 -- The questions on a file's ducts, one duct on.
-use Rattle.std.proofs.Common.{◌≡◌, ℕ, ◌+◌, ◌-◌, ◌<◌, ◌≤◌, true, false, not, ◌&&◌, leb, List, [], ◌∷◌, ◌++◌, length, get_or, take, drop, set, is_some, Ok, Err, Result, sym, refl, ap, subst, ◌∙◌, arith}
+use Rattle.std.proofs.Common.{◌≡◌, ℕ, ◌+◌, ◌<◌, ◌≤◌, true, false, not, ◌&&◌, leb, List, [], ◌∷◌, ◌++◌, length, get_or, take, drop, set, ◌⊎◌, inl, inr, is_some, Ok, Err, Result, sym, refl, ap, subst, ◌∙◌, arith}
 use Rattle.std.proofs.lemmas.List.FromFn.{length-map-range_with_len}
-use Rattle.std.proofs.lemmas.List.{length-take-le, length-set, take_more_set}
+use Rattle.std.proofs.lemmas.List.{length-take-le, length-set, take_more_set, nil_from_length}
 use Rattle.std.proofs.lemmas.Bool.{and_parts, leb-true, eqb-true}
 use Rattle.plan.specs.Ducts.{joins, between, ducts_keep}
 use Rattle.plan.specs.Edits.{Verdict, asks, and_then, check_duct, check_repeat}
@@ -16,7 +16,8 @@ use Rattle.plan.proofs.Editing.{laid_sound}
 use Rattle.plan.proofs.Filling.{places-push, fields-hold}
 use Rattle.plan.proofs.Ruling.{keep-rules}
 use Rattle.planfile.specs.Format.{file_size, duct_at, ducts_in}
-use Rattle.planfile.specs.Loading.{check_sizes, admit, as_plan, decode}
+use Rattle.planfile.specs.Loading.{check_sizes, sizes_in, admit, as_plan, decode}
+use Rattle.planfile.specs.declared.load.Sizes.{Sizes}
 use Rattle.planfile.specs.Words.{two}
 
 -- a file whose sizes got a yes
@@ -41,111 +42,124 @@ sized bs h =
       exact = eqb-true (length bs) (file_size (two bs 2)) (asked_yes _ (plain 4) r.1);
     }
 
--- the ducts to come, after the first `count` of ds, give the answer of the whole file
-pub record Admitting (bs : List ℕ) (pits count : ℕ) (ds left : List Duct) : Type 0 where
-  pub answer : as_plan pits (admit pits (take count ds) left) ≡ decode bs
-  pub few : count + length left ≤ 1024
+-- the ducts to come, after the first `at` of ds, give the answer of the whole file, which has `count` ducts
+pub record Admitting (bs : List ℕ) (pits count at : ℕ) (ds left : List Duct) : Type 0 where
+  pub answer : as_plan pits (admit pits (take at ds) left) ≡ decode bs
+  pub few : count ≤ 1024
+  pub all : at + length left ≡ count
   pub small : pits ≤ 512
-  pub long : length ds ≡ 1024
-  -- the places after the first `count` hold no duct
-  pub places : ds ≡ places_of (take count ds)
-  pub keeps : ducts_keep pits (take count ds) ≡ true
+  pub places : length ds ≡ 1024
+  -- the places from `at` on hold no duct
+  pub unused : ds ≡ places_of (take at ds)
+  pub keeps : ducts_keep pits (take at ds) ≡ true
 
 pub admit-begins :
-    (bs : List ℕ) (pits n : ℕ) (ds left : List Duct) → Ok tt ≡ check_sizes bs → pits ≡ two bs 0 → n ≡ two bs 2 → left ≡ ducts_in bs n → ds ≡ places_of []
-    → Admitting bs pits 0 ds left
+    (bs : List ℕ) (s : Sizes) (ds left : List Duct) → Ok s ≡ and_then (check_sizes bs) (Ok (sizes_in bs)) → left ≡ ducts_in bs s.count → ds ≡ places_of []
+    → Admitting bs s.pits s.count 0 ds left
 unfolding ducts_keep
-admit-begins bs pits n ds left ok p m l none =
-    let s = sized bs (sym ok) in
-    let few = s.few_ducts in
-    let pits-few = s.few_pits in
-    let whole = ap length l ∙ length-map-range_with_len (duct_at _ _) 0 n in
-    record {
+admit-begins bs s ds left ok l none =
+    let yes = both_yes (check_sizes bs) (Ok (sizes_in bs)) s (sym ok) in
+    let e : s ≡ sizes_in bs = cc in
+    let sizes = sized bs yes.0 in
+    let few = sizes.few_ducts in
+    let all : left ≡ ducts_in bs (two bs 2) = l ∙ ap (λ t. ducts_in bs t.count) e in
+    let count = ap length all ∙ length-map-range_with_len (duct_at _ _) 0 (two bs 2) in
+    rw e
+    (record {
       answer =
-          ap (λ xs. as_plan pits (admit pits [] xs)) (l ∙ ap (ducts_in bs) m)
-          ∙ ap (λ k. as_plan k (admit k [] (ducts_in bs (two bs 2)))) p
-          ∙ ap (λ v. and_then v (as_plan (two bs 0) (admit (two bs 0) [] (ducts_in bs (two bs 2))))) ok;
-      few = omega arith;
-      small = omega arith;
-      long = ap length none;
-      places = none;
+          ap (λ xs. as_plan (two bs 0) (admit (two bs 0) [] xs)) all
+          ∙ sym (ap (λ v. and_then v (as_plan (two bs 0) (admit (two bs 0) [] (ducts_in bs (two bs 2))))) yes.0);
+      few = few;
+      all = omega arith;
+      small = sizes.few_pits;
+      places = ap length none;
+      unused = none;
       keeps = refl;
-    }
+    })
 
-module _ {bs : List ℕ} {pits count : ℕ} {ds left : List Duct} (inv : Admitting bs pits count ds left) where
-  room : count ≤ length ds
-  room = let few = inv.few in let long = inv.long in omega arith
+module _ {bs : List ℕ} {pits count at : ℕ} {ds left : List Duct} (inv : Admitting bs pits count at ds left) where
+  room : at ≤ length ds
+  room = let few = inv.few in let all = inv.all in let places = inv.places in omega arith
 
-  taken : length (take count ds) ≡ count
-  taken = length-take-le count ds room
+  long : length (take at ds) ≡ at
+  long = length-take-le at ds room
 
   -- the plan of the ducts so far
-  abbrev pub admitted : PlanSpec
-  admitted = record { pits = pits; ducts = take count ds }
+  abbrev admitted : PlanSpec
+  admitted = record { pits = pits; ducts = take at ds }
 
-  pub admitted-rules : Rules admitted
-  admitted-rules = keep-rules admitted inv.small (let few = inv.few in let long = taken in omega arith) inv.keeps
+  admitted-rules : Rules admitted
+  admitted-rules = keep-rules admitted inv.small (let few = inv.few in let all = inv.all in let l = long in omega arith) inv.keeps
 
-  pub admitted-holds : Holds (record { pits = pits; count = count; ducts = ds })
+  admitted-holds : Holds (record { pits = pits; count = at; ducts = ds })
   admitted-holds =
-      subst (λ n. Holds (record { pits = pits; count = n; ducts = ds })) taken
-      (subst (λ xs. Holds (record { pits = pits; count = length (take count ds); ducts = xs })) (sym inv.places) (fields-hold admitted admitted-rules))
+      subst (λ n. Holds (record { pits = pits; count = n; ducts = ds })) long
+      (subst (λ xs. Holds (record { pits = pits; count = length (take at ds); ducts = xs })) (sym inv.unused) (fields-hold admitted admitted-rules))
+
+  -- the places or the ducts to come have ended, and so have both: the whole file is read
+  pub admit-ends :
+      {A B : Type 0} (end : ℕ) → end ≡ count → A ⊎ B → (A → end ≤ at) → (B → left ≡ [])
+      → (Ok (record { pits = pits; ducts = take count ds }) ≡ decode bs)
+      × Rules (record { pits = pits; ducts = take count ds }) × Holds (record { pits = pits; count = count; ducts = ds })
+  admit-ends end h ended places none =
+      let all = inv.all in
+      let e : at ≡ count = elim ended [ inl a ↦ let past = places a in omega arith | inr b ↦ let few = ap length (none b) in omega arith ] in
+      let nil : left ≡ [] = nil_from_length left (omega arith) in
+      rw (← e) (sym (ap (λ xs. as_plan pits (admit pits (take at ds) xs)) nil) ∙ inv.answer, admitted-rules, admitted-holds)
 
   -- d is the next duct
   module _ {d : Duct} {rest : List Duct} (next : left ≡ d ∷ rest) where
     after : Verdict → Verdict → Result PlanSpec Told
-    after v w = as_plan pits (and_then v (and_then w (admit pits (take count ds ++ d ∷ []) rest)))
+    after v w = as_plan pits (and_then v (and_then w (admit pits (take at ds ++ d ∷ []) rest)))
 
     -- the two questions on d, as the code asks them
-    asked : after (check_duct pits count d) (check_repeat (take count ds) count d) ≡ decode bs
+    asked : after (check_duct pits at d) (check_repeat (take at ds) at d) ≡ decode bs
     unfolding after
     asked =
-        sym (ap (λ k. after (check_duct pits k d) (check_repeat (take count ds) k d)) taken)
-        ∙ sym (ap (λ xs. as_plan pits (admit pits (take count ds) xs)) next)
+        sym (ap (λ k. after (check_duct pits k d) (check_repeat (take at ds) k d)) long)
+        ∙ sym (ap (λ xs. as_plan pits (admit pits (take at ds) xs)) next)
         ∙ inv.answer
 
-    pub admit-repeats : Ok tt ≡ check_duct pits count d → is_some (between (take count ds) d.first d.second) ≡ true → Err (placed 8 count) ≡ decode bs
+    pub admit-repeats : Ok tt ≡ check_duct pits at d → is_some (between (take at ds) d.first d.second) ≡ true → Err (placed 8 at) ≡ decode bs
     unfolding after
     admit-repeats ok old =
-        sym (ap (λ t. after (Ok tt) (asks (not t) (placed 8 count))) old)
-        ∙ ap (λ v. after v (check_repeat (take count ds) count d)) ok
+        sym (ap (λ t. after (Ok tt) (asks (not t) (placed 8 at))) old)
+        ∙ ap (λ v. after v (check_repeat (take at ds) at d)) ok
         ∙ asked
 
     pub admit-more :
-        Ok tt ≡ check_duct pits count d → is_some (between (take count ds) d.first d.second) ≡ false → Admitting bs pits (count + 1) (set ds count d) rest
+        Ok tt ≡ check_duct pits at d → is_some (between (take at ds) d.first d.second) ≡ false → Admitting bs pits count (at + 1) (set ds at d) rest
     unfolding after
     admit-more ok new =
         let few = inv.few in
-        let whole = inv.long in
+        let all = inv.all in
+        let places = inv.places in
         let one = ap length next in
-        let here : count < length ds = omega arith in
-        let short : length (take count ds) < 1024 = let l = taken in omega arith in
+        let here : at < length ds = omega arith in
+        let short : length (take at ds) < 1024 = let l = long in omega arith in
         record {
           answer =
-              ap (λ xs. as_plan pits (admit pits xs rest)) (take_more_set ds count d here)
-              ∙ sym (ap (λ t. after (Ok tt) (asks (not t) (placed 8 count))) new)
-              ∙ ap (λ v. after v (check_repeat (take count ds) count d)) ok
+              ap (λ xs. as_plan pits (admit pits xs rest)) (take_more_set ds at d here)
+              ∙ sym (ap (λ t. after (Ok tt) (asks (not t) (placed 8 at))) new)
+              ∙ ap (λ v. after v (check_repeat (take at ds) at d)) ok
               ∙ asked;
-          few = omega arith;
+          few = few;
+          all = omega arith;
           small = inv.small;
-          long = length-set ds count d ∙ whole;
-          places =
-              ap (λ xs. set xs count d) inv.places
-              ∙ ap (λ n. set (places_of (take count ds)) n d) (sym taken)
-              ∙ places-push (take count ds) d short
-              ∙ ap places_of (sym (take_more_set ds count d here));
-          keeps = laid_sound pits count count ds d here inv.keeps (sym ok) (ap (λ t. asks (not t) (placed 8 count)) new);
+          places = length-set ds at d ∙ places;
+          unused =
+              ap (λ xs. set xs at d) inv.unused
+              ∙ ap (λ n. set (places_of (take at ds)) n d) (sym long)
+              ∙ places-push (take at ds) d short
+              ∙ ap places_of (sym (take_more_set ds at d here));
+          keeps = laid_sound pits at at ds d here inv.keeps (sym ok) (ap (λ t. asks (not t) (placed 8 at)) new);
         }
 
--- the earlier ducts, as the slice of them is cut, and whether one joins the pits a and b
-pub no_repeat : (ds : List Duct) (n a b i : ℕ) → length (take (n - 0) ds) ≤ i
-    → between (drop i (take (n - 0) ds)) a b ≡ between (take (n - 0) ds) a b → is_some (between (take n ds) a b) ≡ false
-no_repeat ds n a b i all inv =
-    let cut : n - 0 ≡ n = omega arith in
-    ap (λ k. is_some (between (take k ds) a b)) (sym cut) ∙ ap is_some (sym inv ∙ between_none (take (n - 0) ds) a b i all)
+-- whether one of the ducts, those before i passed over, joins the pits a and b
+pub no_repeat : (ds : List Duct) (a b i : ℕ) → length ds ≤ i → between (drop i ds) a b ≡ between ds a b → is_some (between ds a b) ≡ false
+no_repeat ds a b i all inv = ap is_some (sym inv ∙ between_none ds a b i all)
 
-pub some-repeat : (ds : List Duct) (n a b i : ℕ) (z : Duct) → i < length (take (n - 0) ds) → joins (get_or (take (n - 0) ds) i z) a b ≡ true
-    → between (drop i (take (n - 0) ds)) a b ≡ between (take (n - 0) ds) a b → is_some (between (take n ds) a b) ≡ true
-some-repeat ds n a b i z here same inv =
-    let cut : n - 0 ≡ n = omega arith in
-    ap (λ k. is_some (between (take k ds) a b)) (sym cut) ∙ ap is_some (sym inv ∙ between-here (take (n - 0) ds) a b i z here same)
+pub some-repeat :
+    (ds : List Duct) (a b i : ℕ) (z : Duct) → i < length ds → joins (get_or ds i z) a b ≡ true → between (drop i ds) a b ≡ between ds a b
+    → is_some (between ds a b) ≡ true
+some-repeat ds a b i z here same inv = ap is_some (sym inv ∙ between-here ds a b i z here same)

@@ -1,33 +1,11 @@
--- Bytes written one by one, or part after part, as one part put over the old bytes.
-use Rattle.std.proofs.Common.{◌≡◌, ℕ, suc, ◌+◌, ◌≤◌, List, [], ◌∷◌, ◌++◌, length, take, drop, set, sym, ap, ◌∙◌, add-zero, arith}
+-- Bytes written part after part, as one part put over the old bytes.
+use Rattle.std.proofs.Common.{◌≡◌, ℕ, ◌+◌, ◌≤◌, List, ◌++◌, length, take, drop, sym, ap, ◌∙◌, arith}
 use lib.Seq.{drop-append-add}
-use Rattle.std.proofs.lemmas.List.Edits.{sets-eq}
-use Rattle.std.proofs.lemmas.List.{length-append, length-take-le, take_at, drop-drop, append_assoc, append-nil, take-append-drop}
+use Rattle.std.proofs.lemmas.List.{length-append, length-take-le, take_at, drop-drop, append_assoc, append-nil, drop_all}
 use Rattle.planfile.specs.Words.{over}
 
-pub put_two : (bs : List ℕ) (at a b : ℕ) → at + 2 ≤ length bs → set (set bs at a) (at + 1) b ≡ over bs at (a ∷ b ∷ [])
-put_two bs at a b h =
-    let e : at + 1 ≡ suc at = omega arith in
-    rw e (sets-eq (a ∷ b ∷ []) bs at h)
-
-pub put_four :
-    (bs : List ℕ) (at a b c d : ℕ) → at + 4 ≤ length bs
-    → set (set (set (set bs at a) (at + 1) b) (at + 2) c) (at + 3) d ≡ over bs at (a ∷ b ∷ c ∷ d ∷ [])
-put_four bs at a b c d h =
-    let e : at + 1 ≡ suc at = omega arith in
-    let f : at + 2 ≡ suc (suc at) = omega arith in
-    let g : at + 3 ≡ suc (suc (suc at)) = omega arith in
-    rw (e, f, g) (sets-eq (a ∷ b ∷ c ∷ d ∷ []) bs at h)
-
--- nothing put over the old bytes
-pub over_none : (bs : List ℕ) (at : ℕ) → bs ≡ over bs at []
-over_none bs at =
-    sym (take-append-drop at bs)
-    ∙ ap (λ k. take at bs ++ drop k bs) (sym (add-zero at))
-    ∙ ap (λ xs. xs ++ drop (at + 0) bs) (sym (append-nil (take at bs)))
-
 -- two parts, one after the other
-pub over-over :
+over-over :
     (bs xs ys : List ℕ) (at n : ℕ) → at + length xs ≤ length bs → at + length xs ≡ n → over (over bs at xs) n ys ≡ over bs at (xs ++ ys)
 over-over bs xs ys at n h e =
     let front : length (take at bs ++ xs) ≡ n = length-append (take at bs) xs ∙ ap (λ k. k + length xs) (length-take-le at bs (omega arith)) ∙ e in
@@ -41,3 +19,12 @@ over-over bs xs ys at n h e =
     ap (λ zs. zs ++ ys ++ drop (n + length ys) (over bs at xs)) first
     ∙ ap (λ zs. take at bs ++ xs ++ ys ++ zs) left
     ∙ ap (λ zs. zs ++ drop (at + length (xs ++ ys)) bs) (append_assoc (take at bs) xs ys)
+
+-- one more part, by the bytes before and after it
+pub over_more :
+    (was o p xs ys : List ℕ) (at n : ℕ) → at + length xs ≤ length was → n ≡ at + length xs → o ≡ over was at xs → p ≡ over o n ys → p ≡ over was at (xs ++ ys)
+over_more was o p xs ys at n h e eo ep = ep ∙ ap (λ zs. over zs n ys) eo ∙ over-over was xs ys at n h (sym e)
+
+-- a part as long as the old bytes
+pub over_whole : (was xs : List ℕ) → length was ≡ length xs → over was 0 xs ≡ xs
+over_whole was xs h = ap (λ ys. xs ++ ys) (drop_all (0 + length xs) was (omega arith)) ∙ append-nil xs

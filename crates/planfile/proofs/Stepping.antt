@@ -1,36 +1,51 @@
 -- The ducts of two arrays, one step on.
-use Rattle.std.proofs.Common.{◌≡◌, ℕ, suc, ◌+◌, ◌-◌, ◌*◌, ◌<◌, List, [], ◌∷◌, length, take, drop, sym, ap, ◌∙◌, arith}
-use Rattle.std.proofs.lemmas.List.{take_rest}
-use Rattle.plan.specs.declared.ducts.Duct.{Duct}
-use Rattle.planfile.specs.Format.{duct_at, ducts_from, ducts_in}
+use Rattle.std.proofs.Common.{◌≡◌, ℕ, zero, suc, ◌+◌, ◌-◌, ◌*◌, ◌/◌, ◌≤◌, List, ◌∷◌, length, take, drop, refl, ap, ◌∙◌, arith}
+use Rattle.std.proofs.lemmas.List.{take_rest, get_or-drop, length-drop}
+use Rattle.planfile.specs.Format.{duct_at, ducts_from}
 use Rattle.planfile.specs.Words.{two, four}
 
-ducts-more : (es ss : List ℕ) (i n : ℕ) → i < n → ducts_from es ss i (n - i) ≡ duct_at es ss i ∷ ducts_from es ss (i + 1) (n - (i + 1))
-ducts-more es ss i n h =
-    let e : n - i ≡ suc (n - (i + 1)) = omega arith in
-    ap (ducts_from es ss i) e
+-- a number of a list is one of the part from byte n on
+pub two_drop : (bs : List ℕ) (n j k : ℕ) → k ≡ n + j → two bs k ≡ two (drop n bs) j
+two_drop bs n j k e =
+    let a = get_or-drop n bs j 0 in
+    let b = get_or-drop n bs (j + 1) 0 in
+    let k1 : k + 1 ≡ n + (j + 1) = omega arith in
+    rw (k1, e, a, b)
 
-pub ducts-none : (es ss : List ℕ) (i n : ℕ) → i ≡ n → ducts_from es ss i (n - i) ≡ []
-ducts-none es ss i n h =
-    let e : n - i ≡ 0 = omega arith in
-    ap (ducts_from es ss i) e
+pub four_drop : (bs : List ℕ) (n j k : ℕ) → k ≡ n + j → four bs k ≡ four (drop n bs) j
+four_drop bs n j k e =
+    let a = get_or-drop n bs j 0 in
+    let b = get_or-drop n bs (j + 1) 0 in
+    let c = get_or-drop n bs (j + 2) 0 in
+    let d = get_or-drop n bs (j + 3) 0 in
+    let k1 : k + 1 ≡ n + (j + 1) = omega arith in
+    let k2 : k + 2 ≡ n + (j + 2) = omega arith in
+    let k3 : k + 3 ≡ n + (j + 3) = omega arith in
+    rw (k1, k2, k3, e, a, b, c, d)
 
--- the two slices of a file, as they are cut
-pub ducts-cut :
-    (bs : List ℕ) (n : ℕ)
-    → ducts_from (take (4 + 4 * n - 4) (drop 4 bs)) (take (length bs - (4 + 4 * n)) (drop (4 + 4 * n) bs)) 0 (n - 0) ≡ ducts_in bs n
-ducts-cut bs n =
-    let e : 4 + 4 * n - 4 ≡ 4 * n = omega arith in
-    let f : n - 0 ≡ n = omega arith in
-    rw (take_rest, e, f)
+-- duct i + 1 is duct i of what is left after the first
+duct_shift : (es ss : List ℕ) (i : ℕ) → duct_at es ss (i + 1) ≡ duct_at (drop 4 es) (drop 6 ss) i
+duct_shift es ss i =
+    let a = two_drop es 4 (4 * i) (4 * (i + 1)) (omega arith) in
+    let b = two_drop es 4 (4 * i + 2) (4 * (i + 1) + 2) (omega arith) in
+    let c = four_drop ss 6 (6 * i) (6 * (i + 1)) (omega arith) in
+    let d = two_drop ss 6 (6 * i + 4) (6 * (i + 1) + 4) (omega arith) in
+    rw (a, b, c, d)
 
--- a step gives duct i and leaves the ducts from i + 1 on
+ducts-shift : (es ss : List ℕ) (i n : ℕ) → ducts_from es ss (i + 1) n ≡ ducts_from (drop 4 es) (drop 6 ss) i n
+ducts-shift es ss i zero = refl
+ducts-shift es ss i (suc n) = ap (λ d. d ∷ ducts_from es ss (i + 1 + 1) n) (duct_shift es ss i) ∙ ap (λ ds. duct_at (drop 4 es) (drop 6 ss) i ∷ ds) (ducts-shift es ss (i + 1) n)
+
+-- the first duct, and those of what is left after it
+pub ducts-more : (es ss : List ℕ) (n : ℕ) → ducts_from es ss 0 (suc n) ≡ duct_at es ss 0 ∷ ducts_from (drop 4 es) (drop 6 ss) 0 n
+ducts-more es ss n = ap (λ ds. duct_at es ss 0 ∷ ds) (ducts-shift es ss 0 n)
+
+-- a step gives the first duct and leaves those after it
 pub ducts-step :
-    (es ss : List ℕ) (i n a b c d : ℕ) → i < n → a ≡ two es (4 * i) → b ≡ two es (4 * i + 2) → c ≡ four ss (6 * i) → d ≡ two ss (6 * i + 4)
-    → ducts_from es ss i (n - i) ≡ record { first = a; second = b; length = c; bore = d } ∷ ducts_from es ss (i + 1) (n - (i + 1))
-ducts-step es ss i n a b c d h p q r s =
-    let rest : List Duct = ducts_from es ss (i + 1) (n - (i + 1)) in
-    let made : ℕ → ℕ → ℕ → ℕ → Duct = λ w x y z. record { first = w; second = x; length = y; bore = z } in
-    ducts-more es ss i n h
-    ∙ sym (ap (λ w. made w b c d ∷ rest) p ∙ ap (λ x. made (two es (4 * i)) x c d ∷ rest) q ∙ ap (λ y. made (two es (4 * i)) (two es (4 * i + 2)) y d ∷ rest) r
-    ∙ ap (λ z. made (two es (4 * i)) (two es (4 * i + 2)) (four ss (6 * i)) z ∷ rest) s)
+    (es ss : List ℕ) → 4 ≤ length es
+    → ducts_from es ss 0 (length es / 4)
+    ≡ duct_at es ss 0 ∷ ducts_from (take (length es - 4) (drop 4 es)) (take (length ss - 6) (drop 6 ss)) 0 (length (take (length es - 4) (drop 4 es)) / 4)
+ducts-step es ss h =
+    let left = length-drop 4 es in
+    let e : length es / 4 ≡ suc (length (drop 4 es) / 4) = omega arith in
+    rw (take_rest es 4, take_rest ss 6, e) (ducts-more es ss (length (drop 4 es) / 4))

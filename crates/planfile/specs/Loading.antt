@@ -5,6 +5,7 @@ use Rattle.plan.specs.Limits.{most_pits, most_ducts}
 use Rattle.plan.specs.Plans.{PlanSpec}
 use Rattle.plan.specs.Refusals.{Told, plain}
 use Rattle.plan.specs.declared.ducts.Duct.{Duct}
+use Rattle.planfile.specs.declared.load.Sizes.{Sizes}
 use Rattle.planfile.specs.Words.{two}
 use Rattle.planfile.specs.Format.{file_size, ducts_in}
 
@@ -15,6 +16,10 @@ check_sizes bs =
     (and_then (asks (nat_le 1 (two bs 0) && nat_le (two bs 0) most_pits) (plain 2))
     (and_then (asks (nat_le (two bs 2) most_ducts) (plain 3))
     (asks (length bs == file_size (two bs 2)) (plain 4))))
+
+-- the sizes that a file has first: pit count, duct count
+abbrev pub sizes_in : List ℕ → Sizes
+sizes_in bs = record { pits = two bs 0; count = two bs 2 }
 
 -- questions 5 to 8 on each duct in turn, after the ducts of `earlier`: ends, length, bore, repeat
 abbrev pub admit : ℕ → List Duct → List Duct → Result (List Duct) Told

@@ -6,5 +6,4 @@
 pub mod load;
 mod reader;
 pub mod save;
-mod steps;
-mod words;
+mod writer;

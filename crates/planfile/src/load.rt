@@ -1,34 +1,41 @@
-ghost use Rattle.std.specs.Prelude.{◌≡◌, IfOk, MatchResult};
+ghost use Rattle.std.specs.Prelude.{◌≡◌, IfOk, MatchResult, Ok};
+ghost use Rattle.plan.specs.Edits.{and_then};
 ghost use Rattle.plan.specs.Rules.{Rules};
 ghost use Rattle.plan.specs.Refusals.{heard};
 ghost use Rattle.planfile.specs.Files.{FileOf, NoFile};
-ghost use Rattle.planfile.specs.Loading.{check_sizes, decode, load_on};
+ghost use Rattle.planfile.specs.Loading.{check_sizes, sizes_in, decode, load_on};
 
-use crate::{steps, words};
+use crate::reader::Reader;
 use plan::ducts::Duct;
 use plan::limits::{MAX_DUCTS, MAX_PITS};
 use plan::plans::Plan;
 use plan::refusals::Refusal;
 
+// The sizes that a file has first: its pit count and its duct count.
+struct Sizes {
+    pits: u16,
+    count: u16,
+}
+
 // Questions 1 to 4 on the file as a whole: 4 bytes, the pit count, the duct count, the exact size.
-fn check_sizes(bytes: &[u8]) -> Result<(), Refusal>
-    ensures { heard result ≡ check_sizes bytes.now }
+fn check_sizes(bytes: &[u8]) -> Result<Sizes, Refusal>
+    ensures { heard result ≡ and_then (check_sizes bytes.now) (Ok (sizes_in bytes.now)) }
 {
-    if bytes.len() < 4 {
+    let [a, b, c, d, ..] = bytes else {
         return Err(Refusal::ShortFile);
-    }
-    let pits = words::get_two(bytes, 0);
-    if pits < 1 || pits > MAX_PITS {
+    };
+    let pits = u16::from_le_bytes([*a, *b]);
+    let count = u16::from_le_bytes([*c, *d]);
+    if !(1..=MAX_PITS).contains(&pits) {
         return Err(Refusal::PitCount);
     }
-    let count = words::get_two(bytes, 2) as usize;
-    if count > MAX_DUCTS {
+    if count as usize > MAX_DUCTS {
         return Err(Refusal::DuctCount);
     }
-    if bytes.len() != 4 + 10 * count {
+    if bytes.len() != 4 + 10 * count as usize {
         return Err(Refusal::FileSize);
     }
-    Ok(())
+    Ok(Sizes { pits, count })
 }
 
 // The plan of a file, or the first rule that the file breaks: questions 1 to 4, then 5 to 8 on each duct in turn.
@@ -36,27 +43,20 @@ fn parse(bytes: &[u8]) -> Result<Plan, Refusal>
     ensures answer { heard result ≡ decode bytes.now }
     ensures rules { IfOk result Rules }
 {
-    check_sizes(bytes)?;
-    let pits = words::get_two(bytes, 0);
-    let mut reader = steps::open(bytes, words::get_two(bytes, 2) as usize);
+    let Sizes { pits, count } = check_sizes(bytes)?;
     let mut ducts = [Duct::UNUSED; MAX_DUCTS];
-    let mut count: u16 = 0;
-    let mut repeated = false;
-    'ducts: while let Some(duct) = reader.next() {
-        duct.check(pits, count)?;
-        for earlier in &ducts[0..count as usize] {
-            if earlier.joins(duct.first, duct.second) {
-                repeated = true;
-                break 'ducts;
+    'ducts: {
+        for (place, duct) in (0..count).zip(Reader::open(bytes, count as usize)) {
+            duct.check(pits, place)?;
+            for earlier in &ducts[..place as usize] {
+                if earlier.joins(duct.first, duct.second) {
+                    break 'ducts Err(Refusal::Repeat { place });
+                }
             }
+            ducts[place as usize] = duct;
         }
-        ducts[count as usize] = duct;
-        count += 1;
+        Ok(Plan { pits, count, ducts })
     }
-    if repeated {
-        return Err(Refusal::Repeat { place: count });
-    }
-    Ok(Plan { pits, count, ducts })
 }
 
 // What `parse` gives. An accepted file is the file of the plan that it gives, byte by byte, and a refused one is the file

@@ -6,7 +6,7 @@ ghost use Rattle.planfile.specs.Loading.{decode};
 ghost use Rattle.planfile.specs.Saving.{save_in, written};
 ghost use Rattle.planfile.specs.Words.{over};
 
-use crate::words;
+use crate::writer::Writer;
 use plan::ducts::Duct;
 use plan::plans::Plan;
 use plan::refusals::Refusal;
@@ -14,25 +14,20 @@ use plan::refusals::Refusal;
 // How many bytes the file of the largest plan has.
 pub const MAX_SIZE: usize = 10_244;
 
-// Writes the first array, of the ducts' ends, from `at` on.
-fn put_ends(ducts: &[Duct], buffer: &mut [u8], at: usize)
-    requires { at + 4 * length ducts.now ≤ length buffer.old }
-    ensures { buffer.new ≡ over buffer.old at (flat_map ends_of ducts.now) }
+// Writes both arrays, duct by duct: the ends by one writer, the lengths and bores by another.
+fn put_ducts(ducts: &[Duct], ends: &mut Writer<'_>, sizes: &mut Writer<'_>)
+    requires ends_room { ends.old.at + 4 * length ducts.now ≤ length ends.old.buffer.now }
+    requires sizes_room { sizes.old.at + 6 * length ducts.now ≤ length sizes.old.buffer.now }
+    ensures ends { ends.new.buffer.now ≡ over ends.old.buffer.now ends.old.at (flat_map ends_of ducts.now) }
+    ensures ends_reference { ends.new.buffer.ghost_name ≡ ends.old.buffer.ghost_name }
+    ensures sizes { sizes.new.buffer.now ≡ over sizes.old.buffer.now sizes.old.at (flat_map sizes_of ducts.now) }
+    ensures sizes_reference { sizes.new.buffer.ghost_name ≡ sizes.old.buffer.ghost_name }
 {
-    for (i, duct) in ducts.iter().enumerate() {
-        words::put_two(buffer, at + 4 * i, duct.first);
-        words::put_two(buffer, at + 4 * i + 2, duct.second);
-    }
-}
-
-// Writes the second array, of the ducts' lengths and bores, from `at` on.
-fn put_sizes(ducts: &[Duct], buffer: &mut [u8], at: usize)
-    requires { at + 6 * length ducts.now ≤ length buffer.old }
-    ensures { buffer.new ≡ over buffer.old at (flat_map sizes_of ducts.now) }
-{
-    for (i, duct) in ducts.iter().enumerate() {
-        words::put_four(buffer, at + 6 * i, duct.length);
-        words::put_two(buffer, at + 6 * i + 4, duct.bore);
+    for duct in ducts {
+        ends.put(duct.first.to_le_bytes());
+        ends.put(duct.second.to_le_bytes());
+        sizes.put(duct.length.to_le_bytes());
+        sizes.put(duct.bore.to_le_bytes());
     }
 }
 
@@ -44,10 +39,12 @@ fn put_file(plan: &Plan, buffer: &mut [u8])
     ensures back { decode (take (file_size (length plan.now.ducts)) buffer.new) ≡ Ok plan.now }
 {
     let ducts = plan.ducts();
-    words::put_two(buffer, 0, plan.pit_count());
-    words::put_two(buffer, 2, ducts.len() as u16);
-    put_ends(ducts, buffer, 4);
-    put_sizes(ducts, buffer, 4 + 4 * ducts.len());
+    let (front, second) = buffer.split_at_mut(4 + 4 * ducts.len());
+    let mut front = Writer::new(front);
+    let mut sizes = Writer::new(second);
+    front.put(plan.pit_count().to_le_bytes());
+    front.put((ducts.len() as u16).to_le_bytes());
+    put_ducts(ducts, &mut front, &mut sizes);
 }
 
 // Writes the plan's file at the front of the buffer and gives its size. Later bytes stay, and so does every byte of a

@@ -1,40 +1,41 @@
-use Rattle.std.proofs.Common.{sym, refl, ◌∙◌, rules}
-use Rattle.planfile.specs.Reading.{to_come}
+use Rattle.std.proofs.Common.{sym, refl, ◌∙◌, arith}
 use Rattle.plan.proofs.Finding.{between-on}
-use Rattle.planfile.proofs.Admitting.{admitted-rules, admitted-holds, admit-begins, admit-repeats, admit-more, no_repeat, some-repeat}
+use Rattle.planfile.proofs.Admitting.{admit-begins, admit-ends, admit-repeats, admit-more, no_repeat, some-repeat}
 use Rattle.planfile.proofs.load.parse.Goals as goal
-use Rattle.planfile.proofs.load.parse.Goals.{in-Some+in_ok-check+then-loop-earlier-test+then-joins, in_default}
 
-pub ducts-init : goal.ducts-init
-ducts-init c = (
-  admit-begins c.args.bytes.now c.get_two-pits.result _ _ (to_come c.open-reader.result) c.in_ok-check_sizes.ensures c.get_two-pits.ensures c.get_two.ensures c.open-reader.ensures refl,
-  refl,
-)
+pub loop-place-init : goal.loop-place-init
+loop-place-init c =
+    let whole = c.into_iter-place-iterator.ensures.into_iter_gives in
+    let first = c.zip-place-items.ensures.first in
+    let second = c.zip-place-items.ensures.second in
+    rw (whole, first, second)
+    (record {
+      places = refl;
+      answer = admit-begins _ _ _ _ c.in_ok-pits.ensures c.open.ensures refl;
+    })
 
 pub loop-earlier-preserved : goal.loop-earlier-preserved
-loop-earlier-preserved c = (
-  sym (between-on _ c.in-Some.duct.first c.in-Some.duct.second c.loop-earlier.earlier-index _ c.loop-earlier-test.true (sym c.if-joins.ensures)) ∙ c.loop-earlier.invariant.0,
-  c.loop-earlier.invariant.1,
-)
+loop-earlier-preserved c = sym (between-on _ c.in-Some.duct.first c.in-Some.duct.second c.loop-earlier.earlier-index _ c.loop-earlier-test.true (sym c.if-joins.ensures)) ∙ c.loop-earlier.invariant
 
-pub ducts-preserved : goal.ducts-preserved
-ducts-preserved c = (
-  admit-more c.ducts.invariant.0 c.in-Some.ensures c.in_ok-check.ensures
-      (no_repeat c.ducts.ducts c.ducts.count c.in-Some.duct.first c.in-Some.duct.second c.loop-earlier.earlier-index c.loop-earlier-test.false c.loop-earlier.invariant.0),
-  c.loop-earlier.invariant.1,
-)
-
-pub returns-then-repeated-clause-answer : goal.returns-then-repeated-clause-answer
-returns-then-repeated-clause-answer c =
-    elim c.match-next.branch [
-      | in-Some+in_ok-check+then-loop-earlier-test+then-joins w ↦
-          admit-repeats c.ducts.invariant.0 w.in-Some.ensures w.in_ok-check.ensures
-          (some-repeat c.ducts.ducts c.ducts.count w.in-Some.duct.first w.in-Some.duct.second w.loop-earlier.earlier-index _ w.loop-earlier-test.true (sym w.if-joins.ensures) w.loop-earlier.invariant.0)
-      | in_default w ↦ search rules
-    ]
+pub loop-place-preserved : goal.loop-place-preserved
+loop-place-preserved c =
+    let step = c.in-Some.ensures.steps in
+    let now = rw (← step.0.1.1) at c.loop-place.invariant.answer in
+    record {
+      places = step.0.0 ∙ c.loop-place.invariant.places;
+      answer = rw (step.0.1.2, ← step.0.1.1) (admit-more now step.1 c.in_ok-check.ensures (no_repeat _ _ _ _ c.loop-earlier-test.false c.loop-earlier.invariant));
+    }
 
 pub invariant_of-result : goal.invariant_of-result
-invariant_of-result c = admitted-holds c.ducts.invariant.0
+invariant_of-result c = (admit-ends c.loop-place.invariant.answer _ c.loop-place.invariant.places c.in-None.ensures.steps (λ r. omega arith) (λ r. r.1.0)).2
 
-pub returns-clause-rules : goal.returns-clause-rules
-returns-clause-rules c = admitted-rules c.ducts.invariant.0
+pub returns-in-None : goal.returns-in-None
+returns-in-None c =
+    let end = admit-ends c.loop-place.invariant.answer _ c.loop-place.invariant.places c.in-None.ensures.steps (λ r. omega arith) (λ r. r.1.0) in
+    record { answer = end.0; rules = end.1 }
+
+pub returns-then-joins-clause-answer : goal.returns-then-joins-clause-answer
+returns-then-joins-clause-answer c =
+    let step = c.in-Some.ensures.steps in
+    let now = rw (← step.0.1.1) at c.loop-place.invariant.answer in
+    admit-repeats now step.1 c.in_ok-check.ensures (some-repeat _ _ _ _ _ c.loop-earlier-test.true (sym c.if-joins.ensures) c.loop-earlier.invariant)

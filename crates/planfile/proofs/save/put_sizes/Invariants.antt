@@ -1,9 +1,0 @@
-use Rattle.std.proofs.Common.{◌≡◌, take}
-use Rattle.std.specs.List.{flat_map}
-use Rattle.planfile.specs.Format.{sizes_of}
-use Rattle.planfile.specs.Words.{over}
-use Rattle.planfile.proofs.save.put_sizes.Given as goal
-
--- the ducts so far are written
-abbrev pub invariant-loop-i : goal.invariant-loop-i
-invariant-loop-i l = l.buffer ≡ over l.initial.buffer l.at (flat_map sizes_of (take l.i l.ducts))
