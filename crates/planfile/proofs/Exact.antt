@@ -11,7 +11,6 @@ use Rattle.plan.specs.Refusals.{Told, heard}
 use Rattle.plan.specs.declared.ducts.Duct.{Duct}
 use Rattle.plan.specs.declared.refusals.Refusal.{Refusal}
 use Rattle.plan.proofs.Asking.{not_both, both_yes}
-use Rattle.plan.proofs.Ruling.{rules-keep}
 use Rattle.planfile.specs.Files.{FileOf, NoFile}
 use Rattle.planfile.proofs.Stepping.{two_drop, ducts-more}
 use Rattle.planfile.proofs.Trip.{round_trip}
@@ -139,4 +138,4 @@ judged bs fit (Ok p) h rules =
     let f = accepted_is_file bs p (λ i. (fit i).fits) (sym h) in
     record { some = f.0; rules = rules; bytes = f.1 }
 judged bs fit (Err e) h rules = λ p f.
-    not_both (h ∙ ap decode (sym f.bytes) ∙ round_trip p f.some f.rules.few_pits f.rules.few_ducts (rules-keep p f.rules))
+    not_both (h ∙ ap decode (sym f.bytes) ∙ round_trip p f.some f.rules)

@@ -3,5 +3,4 @@ pub mod Stepping
 pub mod Admitting
 pub mod Arrays
 pub mod Trip
-pub mod Saved
 pub mod Exact

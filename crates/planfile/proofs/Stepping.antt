@@ -1,7 +1,7 @@
 -- The ducts of two arrays, one step on.
-use Rattle.std.proofs.Common.{◌≡◌, ℕ, zero, suc, ◌+◌, ◌-◌, ◌*◌, ◌/◌, ◌≤◌, List, ◌∷◌, length, take, drop, refl, ap, ◌∙◌, arith}
+use Rattle.std.proofs.Common.{◌≡◌, ℕ, zero, suc, ◌+◌, ◌-◌, ◌*◌, ◌≤◌, List, ◌∷◌, length, take, drop, refl, ap, ◌∙◌, arith}
 use Rattle.std.proofs.lemmas.List.{take_rest, get_or-drop, length-drop}
-use Rattle.planfile.specs.Format.{duct_at, ducts_from}
+use Rattle.planfile.specs.Format.{duct_count, duct_at, ducts_from}
 use Rattle.planfile.specs.Words.{two, four}
 
 -- a number of a list is one of the part from byte n on
@@ -43,9 +43,9 @@ ducts-more es ss n = ap (λ ds. duct_at es ss 0 ∷ ds) (ducts-shift es ss 0 n)
 -- a step gives the first duct and leaves those after it
 pub ducts-step :
     (es ss : List ℕ) → 4 ≤ length es
-    → ducts_from es ss 0 (length es / 4)
-    ≡ duct_at es ss 0 ∷ ducts_from (take (length es - 4) (drop 4 es)) (take (length ss - 6) (drop 6 ss)) 0 (length (take (length es - 4) (drop 4 es)) / 4)
+    → ducts_from es ss 0 (duct_count es)
+    ≡ duct_at es ss 0 ∷ ducts_from (take (length es - 4) (drop 4 es)) (take (length ss - 6) (drop 6 ss)) 0 (duct_count (take (length es - 4) (drop 4 es)))
 ducts-step es ss h =
     let left = length-drop 4 es in
-    let e : length es / 4 ≡ suc (length (drop 4 es) / 4) = omega arith in
-    rw (take_rest es 4, take_rest ss 6, e) (ducts-more es ss (length (drop 4 es) / 4))
+    let e : duct_count es ≡ suc (duct_count (drop 4 es)) = omega arith in
+    rw (take_rest es 4, take_rest ss 6, e) (ducts-more es ss (duct_count (drop 4 es)))

@@ -7,12 +7,12 @@ use Rattle.plan.specs.Ducts.{ducts_keep}
 use Rattle.plan.specs.Edits.{asks, and_then}
 use Rattle.plan.specs.Plans.{PlanSpec}
 use Rattle.plan.specs.Refusals.{Told, plain, placed}
-use Rattle.plan.specs.Rules.{DuctRules}
+use Rattle.plan.specs.Rules.{Rules, DuctRules}
 use Rattle.plan.specs.declared.ducts.Duct.{Duct}
 use Rattle.plan.proofs.Asking.{asks-yes, then_next}
 use Rattle.plan.proofs.Editing.{keeps_checked}
 use Rattle.plan.proofs.Keeping.{keep_front, keep_middle}
-use Rattle.plan.proofs.Ruling.{own_rules}
+use Rattle.plan.proofs.Ruling.{own_rules, rules-keep}
 use Rattle.planfile.specs.Format.{file_size, ends_of, sizes_of, encode, duct_at, ducts_from, ducts_in}
 use Rattle.planfile.specs.Loading.{check_sizes, admit, as_plan, decode}
 use Rattle.planfile.specs.Words.{two, four, two_of, four_of}
@@ -61,12 +61,12 @@ ducts_back pits (d ∷ ds) h keep =
     ∙ ap (λ x. x ∷ ducts_from es ss 0 (length ds)) (duct_back pits d es ss h (own_rules pits d f.own))
     ∙ ap (λ xs. d ∷ xs) (ducts_back pits ds h f.rest)
 
-module _ (p : PlanSpec) (some : 1 ≤ p.pits) (pits : p.pits ≤ 512) (few : length p.ducts ≤ 1024) (keep : ducts_keep p.pits p.ducts ≡ true) where
+module _ (p : PlanSpec) (some : 1 ≤ p.pits) (rules : Rules p) where
   pits-back : two (encode p) 0 ≡ p.pits
-  pits-back = two_back p.pits [] (omega arith)
+  pits-back = let few = rules.few_pits in two_back p.pits [] (omega arith)
 
   count_back : two (encode p) 2 ≡ length p.ducts
-  count_back = two_back (length p.ducts) [] (omega arith)
+  count_back = let few = rules.few_ducts in two_back (length p.ducts) [] (omega arith)
 
   list_back : ducts_in (encode p) (length p.ducts) ≡ p.ducts
   list_back =
@@ -79,7 +79,7 @@ module _ (p : PlanSpec) (some : 1 ≤ p.pits) (pits : p.pits ≤ 512) (few : len
       let b : drop (4 + 4 * n) (encode p) ≡ ss = drop_at front ss (4 + 4 * n) l in
       ap (λ xs. ducts_from xs (drop (4 + 4 * n) (encode p)) 0 n) a
       ∙ ap (λ xs. ducts_from es xs 0 n) b
-      ∙ ducts_back p.pits p.ducts pits keep
+      ∙ ducts_back p.pits p.ducts rules.few_pits (rules-keep p rules)
 
   sizes_back : check_sizes (encode p) ≡ Ok tt
   sizes_back =
@@ -87,6 +87,8 @@ module _ (p : PlanSpec) (some : 1 ≤ p.pits) (pits : p.pits ≤ 512) (few : len
       let len = length-encode p in
       let e = pits-back in
       let f = count_back in
+      let few_pits = rules.few_pits in
+      let few_ducts = rules.few_ducts in
       let a : leb 4 (length bs) ≡ true = le-leb 4 (length bs) (omega arith) in
       let b : (leb 1 (two bs 0) && leb (two bs 0) 512) ≡ true =
       and_from (leb 1 (two bs 0)) (leb (two bs 0) 512) (le-leb 1 (two bs 0) (omega arith)) (le-leb (two bs 0) 512 (omega arith)) in
@@ -101,4 +103,10 @@ module _ (p : PlanSpec) (some : 1 ≤ p.pits) (pits : p.pits ≤ 512) (few : len
       ap (λ v. and_then v (rest (two bs 0) (ducts_in bs (two bs 2)))) sizes_back
       ∙ ap (λ n. rest n (ducts_in bs (two bs 2))) pits-back
       ∙ ap (rest p.pits) (ap (ducts_in bs) count_back ∙ list_back)
-      ∙ ap (as_plan p.pits) (keeps_admitted p.pits [] p.ducts keep)
+      ∙ ap (as_plan p.pits) (keeps_admitted p.pits [] p.ducts (rules-keep p rules))
+
+  -- a buffer with the file at its front
+  pub save_back : (was o : List ℕ) → o ≡ encode p ++ drop (file_size (length p.ducts)) was → decode (take (file_size (length p.ducts)) o) ≡ Ok p
+  save_back was o e =
+      let n : ℕ = file_size (length p.ducts) in
+      ap (λ bs. decode (take n bs)) e ∙ ap decode (take_at (encode p) (drop n was) n (length-encode p)) ∙ round_trip

@@ -1,6 +1,6 @@
 -- The file of a plan: pit count and duct count, 2 bytes each; the first array, of the ducts' ends, 4 bytes a duct;
 -- the second array, of their sizes, 6 bytes a duct.
-use Rattle.std.specs.Prelude.{ℕ, ◌+◌, ◌*◌, List, ◌++◌, map, length, take, drop}
+use Rattle.std.specs.Prelude.{ℕ, ◌+◌, ◌*◌, ◌/◌, List, ◌++◌, map, length, take, drop}
 use Rattle.std.specs.List.{range_with_len, flat_map}
 use Rattle.plan.specs.Plans.{PlanSpec}
 use Rattle.plan.specs.declared.ducts.Duct.{Duct}
@@ -21,6 +21,10 @@ sizes_of d = four_of d.length ++ two_of d.bore
 -- the file of a plan
 abbrev pub encode : PlanSpec → List ℕ
 encode p = two_of p.pits ++ two_of (length p.ducts) ++ flat_map ends_of p.ducts ++ flat_map sizes_of p.ducts
+
+-- how many ducts have their ends in a first array
+abbrev pub duct_count : List ℕ → ℕ
+duct_count ends = length ends / 4
 
 -- duct i of the two arrays
 abbrev pub duct_at : List ℕ → List ℕ → ℕ → Duct

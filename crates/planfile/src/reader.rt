@@ -1,5 +1,6 @@
 // Steps through the two arrays of a file together, duct by duct, and borrows the file's bytes.
-ghost use Rattle.std.specs.Prelude.{◌≡◌, ◌*◌, ◌/◌, ◌≤◌, length};
+ghost use Rattle.std.specs.Prelude.{◌≡◌, ◌*◌, ◌≤◌, length};
+ghost use Rattle.planfile.specs.Format.{duct_count};
 
 use plan::ducts::Duct;
 
@@ -10,9 +11,9 @@ pub(crate) struct Reader<'a> {
     ends: &'a [u8],
     // the ducts' sizes, that is lengths and bores
     sizes: &'a [u8],
-    ghost few: { length ends.now / 4 ≤ 1024 },
-    ghost fours: { length ends.now ≡ 4 * (length ends.now / 4) },
-    ghost sixes: { length sizes.now ≡ 6 * (length ends.now / 4) },
+    ghost few: { duct_count ends.now ≤ 1024 },
+    ghost fours: { length ends.now ≡ 4 * duct_count ends.now },
+    ghost sixes: { length sizes.now ≡ 6 * duct_count ends.now },
 }
 
 impl<'a> Reader<'a> {

@@ -1,6 +1,6 @@
 use Rattle.std.proofs.Common.{rules, ◌∙◌}
 use Rattle.planfile.proofs.Arrays.{file_put}
-use Rattle.planfile.proofs.Saved.{save_back}
+use Rattle.planfile.proofs.Trip.{save_back}
 use Rattle.planfile.proofs.save.put_file.Goals as goal
 
 pub returns-clause-bytes : goal.returns-clause-bytes
@@ -17,4 +17,4 @@ returns-clause-bytes c =
     search rules
 
 pub returns-clause-back : goal.returns-clause-back
-returns-clause-back c = save_back c.args.plan.now c.args.buffer.now _ (returns-clause-bytes c) c.requires.some c.ducts-ducts.ensures.rules
+returns-clause-back c = save_back c.args.plan.now c.requires.some c.ducts-ducts.ensures.rules c.args.buffer.now _ (returns-clause-bytes c)
