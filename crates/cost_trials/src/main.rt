@@ -16,7 +16,7 @@ mod searches;
 fn main(rt: HostRuntime) -> io::Result<()> {
     let mut bytes = Vec::new(rt.alloc());
     rt.stdin().read_to_end(&mut bytes)?;
-    let mut trials = Trials::<CostTrial>::new(bytes.as_slice());
+    let mut trials = Trials::<CostTrial>::new(&bytes);
     let mut plans = 0;
     let mut total = Count::default();
     for (i, count) in trials.by_ref().enumerate() {

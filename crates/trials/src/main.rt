@@ -22,7 +22,7 @@ mod refusals;
 fn main(rt: HostRuntime) -> io::Result<()> {
     let mut bytes = Vec::new(rt.alloc());
     rt.stdin().read_to_end(&mut bytes)?;
-    let mut trials = Trials::<FileTrial>::new(bytes.as_slice());
+    let mut trials = Trials::<FileTrial>::new(&bytes);
     let mut total = Count::default();
     for (i, count) in trials.by_ref().enumerate() {
         if !count.all_agree() {
