@@ -1,5 +1,5 @@
-ghost use Rattle.std.specs.Prelude.{◌≡◌, ℕ, ◌+◌, ◌≤◌, ◌↔◌, List, [], length, take, drop, IsTrue, IsSome, IfSome, OnSome, IfNone};
-ghost use Rattle.trial_parts.specs.Numbers.{number_in};
+ghost use Rattle.std.specs.Prelude.{◌≡◌, ℕ, ◌+◌, ◌↔◌, List, [], take, drop, IsTrue};
+ghost use Rattle.trial_parts.specs.Reading.{number_in, Reads};
 
 use std::marker::Model;
 
@@ -39,10 +39,7 @@ impl<'a> TrialInput<'a> {
 
     // The next `n` bytes. Where fewer are left, all of them stay to be read.
     pub fn bytes(&mut self, n: usize) -> Option<&'a [u8]>
-        ensures found { IsSome result ↔ (n ≤ length self.old) }
-        ensures bytes { IfSome result (λ s. s.now ≡ take n self.old) }
-        ensures read { OnSome result (self.new ≡ drop n self.old) }
-        ensures none { IfNone result (self.new ≡ self.old) }
+        ensures { Reads n self.old self.new result (λ s. s.now ≡ take n self.old) }
     {
         let (bytes, rest) = self.rest.split_at_checked(n)?;
         self.rest = rest;
@@ -51,10 +48,7 @@ impl<'a> TrialInput<'a> {
 
     // The number in the next 4 bytes, the low byte first. Where fewer are left, all of them stay to be read.
     pub fn number(&mut self) -> Option<u32>
-        ensures found { IsSome result ↔ (4 ≤ length self.old) }
-        ensures number { IfSome result (λ n. n ≡ number_in self.old) }
-        ensures read { OnSome result (self.new ≡ drop 4 self.old) }
-        ensures none { IfNone result (self.new ≡ self.old) }
+        ensures { Reads 4 self.old self.new result (λ n. n ≡ number_in self.old) }
     {
         let (word, rest) = self.rest.split_first_chunk()?;
         self.rest = rest;
@@ -63,10 +57,7 @@ impl<'a> TrialInput<'a> {
 
     // The next plan file: its size as a number, then its bytes. Where it is not whole, all bytes stay to be read.
     pub fn file(&mut self) -> Option<&'a [u8]>
-        ensures found { IsSome result ↔ (4 + number_in self.old ≤ length self.old) }
-        ensures file { IfSome result (λ s. s.now ≡ take (number_in self.old) (drop 4 self.old)) }
-        ensures read { OnSome result (self.new ≡ drop (4 + number_in self.old) self.old) }
-        ensures none { IfNone result (self.new ≡ self.old) }
+        ensures { Reads (4 + number_in self.old) self.old self.new result (λ s. s.now ≡ take (number_in self.old) (drop 4 self.old)) }
     {
         let mut ahead = self.lookahead();
         let size = ahead.number()?;
