@@ -9,6 +9,7 @@ use search::marks::PLACES;
 use search::searching;
 use search::table::Table;
 use std::array;
+use std::marker::PhantomData;
 use trial_parts::count::Count;
 use trial_parts::input::TrialInput;
 use trial_parts::plans::loaded;
@@ -20,36 +21,38 @@ pub(crate) struct CostTrial;
 // What stands for "no way" among the costs.
 const NO_WAY: u32 = u32::MAX;
 
-// A cost of the trial, None for "no way".
-fn read_cost(bytes: [u8; 4]) -> Option<u32> {
+// The cost in 4 bytes, None for "no way".
+fn cost_in(bytes: [u8; 4]) -> Option<u32> {
     match u32::from_le_bytes(bytes) {
         NO_WAY => None,
         cost => Some(cost),
     }
 }
 
-// A search that was made: the plan, the goal, and the table that it filled.
+// A search that was made by a measure: the plan, the goal, and the table that it filled.
 #[derive(Drop)]
-struct Searched<'a> {
+struct Searched<'a, M> {
     plan: &'a Plan,
     goal: u16,
     table: Table,
+    measure: PhantomData<M>,
 }
 
-impl<'a> Searched<'a> {
+impl<'a, M: Measure> Searched<'a, M> {
     // Searches a plan for the ways to a goal.
-    fn new<M: Measure>(indexed: &'a IndexedPlan, allowed: &[bool], goal: u16) -> Option<Self> {
+    fn new(indexed: &'a IndexedPlan, allowed: &[bool], goal: u16) -> Option<Self> {
         let mut table = Table::new();
         searching::search::<M>(indexed, allowed, goal, &mut table).ok()?;
         Some(Searched {
             plan: &indexed.plan,
             goal,
             table,
+            measure: PhantomData,
         })
     }
 
     // Whether the way from a pit runs to the goal at this cost.
-    fn way_holds<M: Measure>(&self, pit: u16, cost: u64) -> bool {
+    fn way_holds(&self, pit: u16, cost: u64) -> bool {
         let mut list = [0u16; PLACES];
         let Ok(count) = self.table.write_way(pit, &mut list) else {
             return false;
@@ -62,11 +65,9 @@ impl<'a> Searched<'a> {
     }
 
     // Whether the table says of a pit what the trial says.
-    fn agrees<M: Measure>(&self, pit: u16, expected: Option<u32>) -> bool {
+    fn agrees(&self, pit: u16, expected: Option<u32>) -> bool {
         match (self.table.cost(pit), expected) {
-            (Ok(cost), Some(expected)) => {
-                cost == u64::from(expected) && self.way_holds::<M>(pit, cost)
-            }
+            (Ok(cost), Some(expected)) => cost == u64::from(expected) && self.way_holds(pit, cost),
             (Err(Refusal::NoWay), None) => true,
             _ => false,
         }
@@ -81,11 +82,11 @@ fn try_goal<M: Measure>(
     costs: &[u8],
 ) -> Option<Count> {
     let pits = indexed.plan.pit_count();
-    let searched = Searched::new::<M>(indexed, allowed, goal)?;
+    let searched = Searched::<M>::new(indexed, allowed, goal)?;
     let (costs, _) = costs.as_chunks();
     let agreed = (0..pits)
         .zip(costs)
-        .filter(|(pit, cost)| searched.agrees::<M>(*pit, read_cost(**cost)))
+        .filter(|(pit, cost)| searched.agrees(*pit, cost_in(**cost)))
         .count();
     Some(Count {
         tried: usize::from(pits),
