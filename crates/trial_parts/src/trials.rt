@@ -1,5 +1,7 @@
-ghost use Rattle.std.specs.Prelude.{◌≡◌, ◌<◌, ◌↔◌, ℕ, List, [], length, IsTrue, OnSome, MatchOption};
+ghost use Rattle.std.specs.Prelude.{◌≡◌, ◌<◌, ◌↔◌, ℕ, List, [], length, Option, IsTrue, OnSome, ⊤};
+ghost use Rattle.trial_parts.specs.declared.count.Count.{Count};
 ghost use Rattle.std.specs.Iterator.{at_most};
+ghost use Rattle.trial_parts.specs.Trials.{NextTrial};
 
 use crate::count::Count;
 use crate::input::TrialInput;
@@ -7,9 +9,13 @@ use std::marker::{Model, PhantomData};
 
 // A trial: what a program reads from the front of its input, again and again, to compare two answers.
 pub trait Trial {
+    // Holds of the bytes before a trial, its count, and the bytes that it leaves.
+    ghost run_gives: { List ℕ → Option Count → List ℕ → Type 0 } = { λ _ _ _. ⊤ };
+
     // Reads one trial and makes its comparisons. None where the bytes are no whole trial.
     fn run(input: &mut TrialInput<'_>) -> Option<Count>
-        ensures { OnSome result (length input.new < length input.old) };
+        ensures gives { run_gives input.old result input.new }
+        ensures reads { OnSome result (length input.new < length input.old) };
 }
 
 // The trials of an input, one after the other. They end where the input does, or before the first that is no whole trial.
@@ -45,11 +51,12 @@ impl<'a, T> Trials<'a, T> {
     }
 }
 
-// A trial takes bytes off the front; where there is none more, the bytes that are left stay.
+// The next count is that of a trial of the bytes that are left, and they are then what it leaves. Where it is no whole trial,
+// they stay.
 impl<T: Trial> Iterator for Trials<'_, T> {
     type Item = Count;
 
-    ghost next_gives = { λ old count new. MatchOption count (new ≡ old) (λ _. length new < length old) };
+    ghost next_gives = { NextTrial T.run_gives };
 
     ghost remaining = { λ trials. at_most (length trials) };
 
