@@ -2,13 +2,13 @@
 use measure::{Bore, Length, Measure};
 use plan::plans::Plan;
 use plan::refusals::Refusal;
-use planfile::load;
 use search::indexed::IndexedPlan;
 use search::marks::PLACES;
 use search::searching;
 use search::table::Table;
 use std::process::Abort;
 use std::test::Fail;
+use trial_parts::plans::loaded;
 use ways::way_cost;
 
 // The file of the nine-pit district: a ring of eight pits, and pit 8 joined to pit 3.
@@ -19,13 +19,6 @@ const NINE_PITS: [u8; 94] = [
     3, 0, 0, 40, 0, 250, 0, 0, 0, 60, 0,
 ];
 
-// The plan of a file.
-fn loaded(bytes: &[u8]) -> Result<Plan, Fail> {
-    let mut plan = Plan::blank();
-    load::load(&mut plan, bytes)?;
-    Ok(plan)
-}
-
 // The table of a search through allowed pits.
 fn searched<M: Measure>(plan: &Plan, allowed: &[bool], goal: u16) -> Result<Table, Fail> {
     let mut table = Table::new();
@@ -35,13 +28,11 @@ fn searched<M: Measure>(plan: &Plan, allowed: &[bool], goal: u16) -> Result<Tabl
 
 // A refusal with this number.
 fn refused<T: Drop>(rt: &impl Abort, answer: Result<T, Refusal>, number: u8) -> Result<(), Fail> {
-    match answer {
-        Ok(_) => Err(Fail::new("accepted")),
-        Err(refusal) => {
-            assert_eq!(rt; refusal.number(), number);
-            Ok(())
-        },
-    }
+    let Err(refusal) = answer else {
+        return Err(Fail::new("accepted"));
+    };
+    assert_eq!(rt; refusal.number(), number);
+    Ok(())
 }
 
 #[test]

@@ -54,13 +54,12 @@ fn list_plan(rt: &HostRuntime, plan: &Plan) -> io::Result<()> {
 fn save_again(rt: &HostRuntime, plan: &Plan, bytes: &[u8]) -> io::Result<()> {
     let mut buffer = [0u8; save::MAX_SIZE];
     match save::save(plan, &mut buffer) {
+        Ok(size) if &buffer[..size] == bytes => {
+            println!(rt; "saved again: {size} bytes, the same")
+        }
         Ok(size) => {
-            if &buffer[0..size] == bytes {
-                println!(rt; "saved again: {size} bytes, the same")
-            } else {
-                println!(rt; "saved again: {size} bytes, not the same")?;
-                Err(io::Error::other("saved otherwise"))
-            }
+            println!(rt; "saved again: {size} bytes, not the same")?;
+            Err(io::Error::other("saved otherwise"))
         }
         Err(refusal) => refuse(rt, refusal),
     }
@@ -72,10 +71,10 @@ fn main(rt: HostRuntime) -> io::Result<()> {
     let size = bytes.len();
     println!(rt; "read {size} bytes")?;
     let mut plan = Plan::blank();
-    match load::load(&mut plan, bytes.as_slice()) {
+    match load::load(&mut plan, &bytes) {
         Ok(()) => {
             list_plan(&rt, &plan)?;
-            save_again(&rt, &plan, bytes.as_slice())
+            save_again(&rt, &plan, &bytes)
         }
         Err(refusal) => refuse(&rt, refusal),
     }

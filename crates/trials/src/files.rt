@@ -1,11 +1,12 @@
 // The examples of load and save that the rules name.
+use crate::answers;
 use plan::ducts::Duct;
 use plan::plans::Plan;
-use plan::refusals::Figures;
 use planfile::{load, save};
-use std::alloc::{AllocError, Global};
+use std::alloc::Global;
 use std::process::Abort;
 use std::test::Fail;
+use trial_parts::plans::loaded;
 
 // A duct, in the order in which the rules list it.
 pub(crate) fn duct(first: u16, second: u16, length: u32, bore: u16) -> Duct {
@@ -18,9 +19,9 @@ pub(crate) fn duct(first: u16, second: u16, length: u32, bore: u16) -> Duct {
 }
 
 // The bytes of a file with these ducts, whether they keep the rules or not.
-fn file(heap: Global, pits: u16, ducts: &[Duct]) -> Result<Vec<u8>, AllocError> {
+fn file(heap: Global, pits: u16, ducts: &[Duct]) -> Result<Vec<u8>, Fail> {
     let mut bytes = Vec::new(heap);
-    let count = (ducts.len() & 0xffff) as u16;
+    let count = u16::try_from(ducts.len())?;
     bytes.extend_from_slice(&pits.to_le_bytes())?;
     bytes.extend_from_slice(&count.to_le_bytes())?;
     for d in ducts {
@@ -34,29 +35,12 @@ fn file(heap: Global, pits: u16, ducts: &[Duct]) -> Result<Vec<u8>, AllocError> 
     Ok(bytes)
 }
 
-// The plan of a file.
-pub(crate) fn loaded(bytes: &[u8]) -> Result<Plan, Fail> {
-    let mut plan = Plan::blank();
-    load::load(&mut plan, bytes)?;
-    Ok(plan)
-}
-
 const TWO_PITS: [u8; 14] = [2, 0, 1, 0, 0, 0, 1, 0, 0xf4, 1, 0, 0, 100, 0];
 
 // Loads a file over the two-pit plan: it is refused with this number and this place, and that plan stays.
 fn refused(rt: &impl Abort, bytes: &[u8], number: u8, place: u32) -> Result<(), Fail> {
     let mut plan = loaded(&TWO_PITS)?;
-    match load::load(&mut plan, bytes) {
-        Ok(()) => return Err(Fail::new("accepted")),
-        Err(refusal) => {
-            assert_eq!(rt; refusal.number(), number);
-            let figures = Figures {
-                first: place,
-                second: 0,
-            };
-            assert_eq!(rt; refusal.figures(), figures);
-        }
-    }
+    answers::refused(rt, load::load(&mut plan, bytes), number, place)?;
     assert_eq!(rt; plan.pit_count(), 2);
     assert!(rt; plan.ducts() == [duct(0, 1, 500, 100)].as_slice());
     Ok(())
@@ -127,22 +111,8 @@ fn the_first_fault_and_its_place(rt: HostRuntime) -> Result<(), Fail> {
 
 // A save that is refused with this number and no figures, and leaves a buffer of nines.
 fn save_refused(rt: &impl Abort, plan: &Plan, buffer: &mut [u8], number: u8) -> Result<(), Fail> {
-    match save::save(plan, buffer) {
-        Ok(_) => return Err(Fail::new("saved")),
-        Err(refusal) => {
-            assert_eq!(rt; refusal.number(), number);
-            assert_eq!(rt;
-                refusal.figures(),
-                Figures {
-                    first: 0,
-                    second: 0,
-                }
-            );
-        }
-    }
-    for byte in buffer.iter() {
-        assert_eq!(rt; *byte, 9);
-    }
+    answers::refused(rt, save::save(plan, buffer), number, 0)?;
+    assert!(rt; buffer.iter().all(|byte| *byte == 9));
     Ok(())
 }
 

@@ -1,11 +1,6 @@
-use plan::refusals::{Figures, Refusal};
-use std::process::Abort;
-
-// A refusal's number and figures, from the list of the rules.
-fn tells(rt: &impl Abort, refusal: Refusal, number: u8, first: u32, second: u32) {
-    assert_eq!(rt; refusal.number(), number);
-    assert_eq!(rt; refusal.figures(), Figures { first, second });
-}
+// The number and the figures of each refusal, from the list of the rules.
+use crate::answers::tells;
+use plan::refusals::Refusal;
 
 #[test]
 fn every_refusal_has_its_number_and_figures(rt: HostRuntime) {
