@@ -8,11 +8,12 @@ ghost use Rattle.planfile.specs.Words.{over};
 
 use crate::writer::Writer;
 use plan::ducts::Duct;
+use plan::limits::MAX_DUCTS;
 use plan::plans::Plan;
 use plan::refusals::Refusal;
 
 // How many bytes the file of the largest plan has.
-pub const MAX_SIZE: usize = 10_244;
+pub const MAX_SIZE: usize = 4 + 10 * MAX_DUCTS;
 
 // Writes both arrays, duct by duct: the ends by one writer, the lengths and bores by another.
 fn put_ducts(ducts: &[Duct], ends: &mut Writer<'_>, sizes: &mut Writer<'_>)
