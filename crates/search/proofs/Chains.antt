@@ -8,9 +8,10 @@ use Rattle.plan.specs.Plans.{PlanSpec}
 use Rattle.plan.specs.Rules.{Rules}
 use Rattle.search.specs.declared.links.Links.{Links}
 use Rattle.search.specs.declared.marks.Mark.{Mark}
+use Rattle.search.specs.declared.marks.SeenPit.{SeenPit}
 use Rattle.search.specs.Allowed.{may_use}
 use Rattle.search.specs.Index.{duct_at, touches, last_at, links_of, head_at, links_at, HeadsTo, LinksTo, before, put_heads, put_links}
-use Rattle.search.specs.Steps.{Within, far_end, mark_by, offered_at, relax, relax_down}
+use Rattle.search.specs.Steps.{Within, far_end, route_by, offered_at, relax, relax_down}
 
 -- one more duct
 head_more : (ds : List Duct) (i : ℕ) (hs : List (Option ℕ)) (u : ℕ) → u < length hs → head_at hs u ≡ last_at ds u i → head_at (put_heads hs (duct_at ds i) i) u ≡ cond (touches (duct_at ds i) u) (Some i) (last_at ds u i)
@@ -137,55 +138,55 @@ before-is ds ls n u j x l t = rw (x j l) (go (eqb (duct_at ds j).first u) refl)
     ]
 
 -- a duct that is not at u does nothing
-relax-away : (m : Meaning) (al : List Bool) (u c h : ℕ) (d : Duct) (ms : List Mark) → touches d u ≡ false → relax m al u c h d ms ≡ ms
+relax-away : (m : Meaning) (al : List Bool) (k : SeenPit) (d : Duct) (ms : List Mark) → touches d k.pit ≡ false → relax m al k d ms ≡ ms
 unfolding relax
-relax-away m al u c h d ms t =
-    let (f, s) = or_parts (eqb d.first u) (eqb d.second u) t in
-    elim (may_use al d) as (λ v. cond v (offered_at m (far_end d u) (mark_by m u c h d) ms) ms ≡ ms) [ true ↦ rw (f, s) | false ↦ refl ]
+relax-away m al k d ms t =
+    let (f, s) = or_parts (eqb d.first k.pit) (eqb d.second k.pit) t in
+    elim (may_use al d) as (λ v. cond v (offered_at m (far_end d k.pit) (route_by m k d) ms) ms ≡ ms) [ true ↦ rw (f, s) | false ↦ refl ]
 
-module _ (m : Meaning) (al : List Bool) (u c h : ℕ) (ds : List Duct) where
+module _ (m : Meaning) (al : List Bool) (k : SeenPit) (ds : List Duct) where
   -- what is left to do from a place on
   abbrev pub rest : Option ℕ → List Mark → List Mark
   rest None ms = ms
-  rest (Some j) ms = relax_down m al u c h ds (suc j) ms
+  rest (Some j) ms = relax_down m al k ds (suc j) ms
 
-  rest_is : (i : ℕ) (ms : List Mark) → relax_down m al u c h ds i ms ≡ rest (last_at ds u i) ms
+  rest_is : (i : ℕ) (ms : List Mark) → relax_down m al k ds i ms ≡ rest (last_at ds k.pit i) ms
   unfolding relax_down last_at
   rest_is zero ms = refl
-  rest_is (suc i) ms = go (touches (duct_at ds i) u) refl (rest_is i ms)
+  rest_is (suc i) ms = go (touches (duct_at ds i) k.pit) refl (rest_is i ms)
     where
-      go : (t : Bool) → touches (duct_at ds i) u ≡ t → relax_down m al u c h ds i ms ≡ rest (last_at ds u i) ms → relax_down m al u c h ds (suc i) ms ≡ rest (cond t (Some i) (last_at ds u i)) ms
+      go : (t : Bool) → touches (duct_at ds i) k.pit ≡ t → relax_down m al k ds i ms ≡ rest (last_at ds k.pit i) ms → relax_down m al k ds (suc i) ms ≡ rest (cond t (Some i) (last_at ds k.pit i)) ms
       go true e ih = refl
-      go false e ih = ap (relax_down m al u c h ds i) (relax-away m al u c h (duct_at ds i) ms e) ∙ ih
+      go false e ih = ap (relax_down m al k ds i) (relax-away m al k (duct_at ds i) ms e) ∙ ih
 
   -- the walk is at the place o with the marks ms: the ducts from there on give what all of them give
   pub record Walk (old : List Mark) (o : Option ℕ) (ms : List Mark) : Type 0 where
-    pub place : Place ds u o
-    pub gives : relax_down m al u c h ds (length ds) old ≡ rest o ms
+    pub place : Place ds k.pit o
+    pub gives : relax_down m al k ds (length ds) old ≡ rest o ms
 
-  pub walk_starts : (hs : List (Option ℕ)) (ms : List Mark) → HeadsTo ds (length ds) hs → u < length hs → Walk ms (head_at hs u) ms
+  pub walk_starts : (hs : List (Option ℕ)) (ms : List Mark) → HeadsTo ds (length ds) hs → k.pit < length hs → Walk ms (head_at hs k.pit) ms
   walk_starts hs ms x l =
-      let e = x u l in
-      record { place = rw e (last_place ds u (length ds) (omega arith)); gives = rw e (rest_is (length ds) ms) }
+      let e = x k.pit l in
+      record { place = rw e (last_place ds k.pit (length ds) (omega arith)); gives = rw e (rest_is (length ds) ms) }
 
   module _ (ls : List Links) (x : LinksTo ds (length ds) ls) (old ms : List Mark) (o : Option ℕ) (j : ℕ) (is : o ≡ Some j) (w : Walk old o ms) where
-    pub walk_at : (j < length ds) × (touches (duct_at ds j) u ≡ true)
+    pub walk_at : (j < length ds) × (touches (duct_at ds j) k.pit ≡ true)
     walk_at = rw is at w.place
 
-    module _ (o' : Option ℕ) (q : o' ≡ before (duct_at ds j) u (links_at ls j)) where
-      next-is : o' ≡ last_at ds u j
-      next-is = (let (l, t) = walk_at in q ∙ before-is ds ls (length ds) u j x l t)
+    module _ (o' : Option ℕ) (q : o' ≡ before (duct_at ds j) k.pit (links_at ls j)) where
+      next-is : o' ≡ last_at ds k.pit j
+      next-is = (let (l, t) = walk_at in q ∙ before-is ds ls (length ds) k.pit j x l t)
 
       pub walk-falls : ahead o' < ahead o
-      walk-falls = rw (is, next-is) (let l = last_less ds u j in omega arith)
+      walk-falls = rw (is, next-is) (let l = last_less ds k.pit j in omega arith)
 
-      pub walk_more : (ns : List Mark) → ns ≡ relax m al u c h (duct_at ds j) ms → Walk old o' ns
+      pub walk_more : (ns : List Mark) → ns ≡ relax m al k (duct_at ds j) ms → Walk old o' ns
       unfolding relax_down
       walk_more ns e =
           record {
-            place = rw next-is (last_place ds u j (let k = walk_at.0 in omega arith));
+            place = rw next-is (last_place ds k.pit j (let l = walk_at.0 in omega arith));
             gives = rw (next-is, ← (rest_is j ns), e) (w.gives ∙ ap (λ z. rest z ms) is);
           }
 
-  pub walk_ends : (old ms : List Mark) (o : Option ℕ) → o ≡ None → Walk old o ms → ms ≡ relax_down m al u c h ds (length ds) old
+  pub walk_ends : (old ms : List Mark) (o : Option ℕ) → o ≡ None → Walk old o ms → ms ≡ relax_down m al k ds (length ds) old
   walk_ends old ms o e w = sym (w.gives ∙ ap (λ z. rest z ms) e)

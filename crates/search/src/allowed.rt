@@ -15,10 +15,5 @@ pub(crate) fn may_use(allowed: &[bool], duct: Duct) -> bool
 pub(crate) fn is_allowed(allowed: &[bool], pit: u16) -> bool
     ensures { result ≡ is_allowed allowed.now pit }
 {
-    let place = pit as usize;
-    if place < allowed.len() {
-        allowed[place]
-    } else {
-        false
-    }
+    allowed.get(pit as usize).copied().unwrap_or(false)
 }

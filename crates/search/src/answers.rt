@@ -16,7 +16,7 @@ impl Table {
     {
         Table {
             pits: 0,
-            marks: [Mark::UNSEEN; PLACES],
+            marks: [Mark::Unseen; PLACES],
         }
     }
 

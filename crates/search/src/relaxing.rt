@@ -2,55 +2,53 @@
 ghost use Rattle.std.specs.Prelude.{◌≡◌, ◌<◌, ◌≤◌, length};
 ghost use Rattle.measure.specs.Meaning.{read};
 ghost use Rattle.search.specs.Frontier.{Tracks};
-ghost use Rattle.search.specs.Steps.{Within, takes as takes_mark, offered, mark_by, far_end, relax as relax_marks};
+ghost use Rattle.search.specs.Steps.{Within, takes, offered, route_by, far_end, relax};
 
 use crate::allowed;
 use crate::frontier::Frontier;
-use crate::marks::{Mark, State};
+use crate::marks::{Mark, Route, SeenPit};
 use measure::Measure;
 use plan::ducts::Duct;
 use ways::duct_cost;
 
-// The pit `pit` was settled with the mark `here`. If the duct may be used and has it as an end, the pit at its far end gets a
-// mark with the way through the duct, unless it has a mark that is no worse.
+// The pit `from` was settled. If the duct may be used and has it as an end, the pit at its far end gets a mark with the way
+// through the duct, unless it has a mark that is no worse.
 pub(crate) fn relax<M: Measure>(
     allowed: &[bool],
     duct: Duct,
-    pit: u16,
-    here: Mark,
+    from: SeenPit,
     marks: &mut [Mark],
     frontier: &mut Frontier,
 )
     requires few { length marks.old ≤ 512 }
     requires within { Within (length marks.old) duct }
-    requires room { here.hops < 512 }
+    requires room { from.route.hops < 512 }
     requires tracks { Tracks (read M.Measure.means) marks.old frontier.old.held }
-    ensures marks { marks.new ≡ relax_marks (read M.Measure.means) allowed.now pit here.cost here.hops duct marks.old }
+    ensures marks { marks.new ≡ relax (read M.Measure.means) allowed.now from duct marks.old }
     ensures tracks { Tracks (read M.Measure.means) marks.new frontier.new.held }
 {
     if !allowed::may_use(allowed, duct) {
         return;
     }
-    if let Some(other) = far_end(duct, pit) {
-        offer::<M>(other, mark_by::<M>(duct, pit, here), marks, frontier);
+    if let Some(other) = far_end(duct, from.pit) {
+        offer::<M>(other, route_by::<M>(duct, from), marks, frontier);
     }
 }
 
-// The mark of the pit at the other end of a duct, for the way through the duct to `pit`, which has the mark `here`.
-fn mark_by<M: Measure>(duct: Duct, pit: u16, here: Mark) -> Mark
-    requires { here.hops < 512 }
-    ensures { result ≡ mark_by (read M.Measure.means) pit here.cost here.hops duct }
+// The way by the duct to a pit that was seen, and on from there.
+fn route_by<M: Measure>(duct: Duct, from: SeenPit) -> Route
+    requires { from.route.hops < 512 }
+    ensures { result ≡ route_by (read M.Measure.means) from duct }
 {
-    Mark {
-        state: State::Open,
-        cost: M::join(duct_cost::<M>(duct), here.cost),
-        next: pit,
-        hops: here.hops + 1,
+    Route {
+        cost: M::join(duct_cost::<M>(duct), from.route.cost),
+        next: from.pit,
+        hops: from.route.hops + 1,
     }
 }
 
-// Gives a pit a new mark, if that is better than its own.
-fn offer<M: Measure>(pit: u16, new: Mark, marks: &mut [Mark], frontier: &mut Frontier)
+// Opens a pit with a new way, if that is better than what its mark has.
+fn offer<M: Measure>(pit: u16, new: Route, marks: &mut [Mark], frontier: &mut Frontier)
     requires few { length marks.old ≤ 512 }
     requires below { pit < length marks.old }
     requires tracks { Tracks (read M.Measure.means) marks.old frontier.old.held }
@@ -58,19 +56,19 @@ fn offer<M: Measure>(pit: u16, new: Mark, marks: &mut [Mark], frontier: &mut Fro
     ensures tracks { Tracks (read M.Measure.means) marks.new frontier.new.held }
 {
     if takes::<M>(marks[pit as usize], new.cost) {
-        marks[pit as usize] = new;
+        marks[pit as usize] = Mark::Open(new);
         frontier.update::<M>(marks, pit);
     }
 }
 
 // Whether a way of this cost is better than what the mark has. A settled pit has its best way.
 fn takes<M: Measure>(old: Mark, cost: u64) -> bool
-    ensures { result ≡ takes_mark (read M.Measure.means) old.state old.cost cost }
+    ensures { result ≡ takes (read M.Measure.means) old cost }
 {
-    match old.state {
-        State::Unseen => true,
-        State::Open => !M::no_worse(old.cost, cost),
-        State::Settled => false,
+    match old {
+        Mark::Unseen => true,
+        Mark::Open(route) => !M::no_worse(route.cost, cost),
+        Mark::Settled(_) => false,
     }
 }
 

@@ -4,11 +4,11 @@ ghost use Rattle.measure.specs.Meaning.{read};
 ghost use Rattle.plan.specs.Refusals.{heard};
 ghost use Rattle.ways.specs.Theorems.{BestCosts};
 ghost use Rattle.search.specs.Searched.{plan_in, marks_of, Searched, Filled, check_goal};
-ghost use Rattle.search.specs.Steps.{none_seen, goal_mark};
+ghost use Rattle.search.specs.Steps.{none_seen, goal_route};
 
 use crate::frontier::Frontier;
 use crate::indexed::IndexedPlan;
-use crate::marks::{Mark, State};
+use crate::marks::{Mark, Route};
 use crate::table::Table;
 use crate::{allowed, turns};
 use measure::Measure;
@@ -59,35 +59,25 @@ fn fill<M: Measure>(indexed: &IndexedPlan, allowed: &[bool], goal: u16, marks: &
     requires below { goal < length marks.old }
     ensures { Filled (read M.Measure.means) allowed.now (plan_in indexed.now) goal marks.new }
 {
-    clear(marks);
+    marks.fill(Mark::Unseen);
     if !allowed::is_allowed(allowed, goal) {
         return;
     }
     let mut frontier = Frontier::new();
-    marks[goal as usize] = goal_mark::<M>(goal);
+    marks[goal as usize] = Mark::Open(goal_route::<M>(goal));
     frontier.update::<M>(marks, goal);
-    while let Some(pit) = frontier.best::<M>(marks) {
-        turns::turn::<M>(indexed, allowed, pit, marks, &mut frontier);
+    while let Some(from) = frontier.best::<M>() {
+        turns::turn::<M>(indexed, allowed, from, marks, &mut frontier);
     }
 }
 
-// The mark of the goal: a way that stands still leads from it to itself.
-fn goal_mark<M: Measure>(goal: u16) -> Mark
-    ensures { result ≡ goal_mark (read M.Measure.means) goal }
+// The way of the goal: it stands still.
+fn goal_route<M: Measure>(goal: u16) -> Route
+    ensures { result ≡ goal_route (read M.Measure.means) goal }
 {
-    Mark {
-        state: State::Open,
+    Route {
         cost: M::still_cost(),
         next: goal,
         hops: 0,
-    }
-}
-
-// Makes every pit unseen.
-fn clear(marks: &mut [Mark])
-    ensures { marks.new ≡ none_seen (length marks.old) }
-{
-    for mark in marks.iter_mut() {
-        *mark = Mark::UNSEEN;
     }
 }

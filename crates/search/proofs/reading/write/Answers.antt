@@ -1,24 +1,26 @@
-use Rattle.std.proofs.Common.{arith, length-set}
-use Rattle.search.proofs.Written.{here_below, writing_starts, writing_more, way-written, route-length}
+use Rattle.std.proofs.Common.{◌+◌, ◌++◌, drop, ap, arith}
+use Rattle.search.proofs.Written.{way_room, writing_starts, writing_reached, writing_more, writing_ends, route-length}
 use Rattle.search.proofs.reading.write.Goals as goal
 
-pub bounds-marks-pit : goal.bounds-marks-pit
-bounds-marks-pit c = here_below c.args.marks.now c.args.pit c.requires.reached
+pub loop-place-init : goal.loop-place-init
+loop-place-init c = writing_starts c.args.marks.now c.args.from c.requires.reached _
 
-pub loop-i-init : goal.loop-i-init
-loop-i-init c =
-    let l = c.requires.brief c.args.pit c.requires.reached in
-    writing_starts c.args.marks.now c.args.pit c.args.list.now (omega arith) c.requires.reached
+pub next_after-here-requires : goal.next_after-here-requires
+next_after-here-requires c =
+    let room = way_room c.args.marks.now c.args.from c.requires.reached c.requires.brief c.args.list.now c.requires.room in
+    writing_reached c.args.marks.now c.args.from c.requires.reached c.loop-place.place-index c.loop-place.here _ c.loop-place.invariant (omega arith)
 
-pub loop-i-preserved : goal.loop-i-preserved
-loop-i-preserved c =
-    let l = c.requires.brief c.args.pit c.requires.reached in
-    let s = length-set c.args.list.now 0 c.args.pit in
-    writing_more c.args.marks.now _ c.args.pit _ c.loop-i.i c.loop-i.here c.loop-i.list c.requires.linked c.loop-i-test.true (omega arith) c.loop-i.invariant
+pub loop-place-preserved : goal.loop-place-preserved
+loop-place-preserved c =
+    let room = way_room c.args.marks.now c.args.from c.requires.reached c.requires.brief c.args.list.now c.requires.room in
+    rw c.next_after-here.ensures
+    (writing_more c.args.marks.now c.args.from c.requires.reached c.loop-place.place-index c.loop-place.here _ c.loop-place.invariant c.requires.linked (omega arith) (omega arith))
 
-pub returns : goal.returns
-returns c =
-    record {
-      count = route-length c.args.marks.now c.args.pit;
-      list = way-written c.args.marks.now c.args.pit c.args.list.now c.loop-i.i c.loop-i.here c.loop-i.list (omega arith) c.loop-i.invariant;
-    }
+pub returns-clause-count : goal.returns-clause-count
+returns-clause-count c = route-length c.args.marks.now c.args.from c.requires.reached
+
+pub returns-clause-list : goal.returns-clause-list
+returns-clause-list c =
+    let room = way_room c.args.marks.now c.args.from c.requires.reached c.requires.brief c.args.list.now c.requires.room in
+    ap (λ xs. xs ++ drop (c.args.from.route.hops + 1) c.args.list.now)
+    (writing_ends c.args.marks.now c.args.from c.requires.reached c.loop-place.place-index c.loop-place.here _ c.loop-place.invariant (omega arith) (omega arith))

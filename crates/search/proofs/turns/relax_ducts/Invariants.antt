@@ -6,7 +6,7 @@ use Rattle.search.proofs.turns.relax_ducts.Given as goal
 -- the ducts from `next` on are still to be relaxed, and the frontier is that of the marks
 abbrev pub invariant-loop-next : goal.invariant-loop-next
 invariant-loop-next g l =
-    Walk (read g.M.Measure.means) l.allowed l.pit l.here.cost l.here.hops l.ducts l.initial.marks l.next l.marks
+    Walk (read g.M.Measure.means) l.allowed l.from l.ducts l.initial.marks l.next l.marks
     × Tracks (read g.M.Measure.means) l.marks l.frontier.held
 
 abbrev pub decreases-loop-next : goal.decreases-loop-next

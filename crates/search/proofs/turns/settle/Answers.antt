@@ -10,5 +10,5 @@ update-requires g c =
     record {
       few = simp length-set (omega arith);
       below = simp length-set (omega arith);
-      others = tracks_set (read g.M.Measure.means) c.args.marks.now c.args.pit _ c.args.frontier.now.held c.requires.tracks;
+      others = tracks_set (read g.M.Measure.means) c.args.marks.now c.args.from.pit _ c.args.frontier.now.held c.requires.tracks;
     }
