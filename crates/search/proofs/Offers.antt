@@ -13,8 +13,9 @@ use Rattle.search.specs.declared.marks.Mark.{Mark}
 use Rattle.search.specs.declared.marks.Mark.TheVariants.{Unseen, Open, Settled}
 use Rattle.search.specs.declared.marks.Route.{Route}
 use Rattle.search.specs.declared.marks.SeenPit.{SeenPit}
+use Rattle.search.specs.Allowed.{may_use}
 use Rattle.search.specs.Marks.{at, route_at}
-use Rattle.search.specs.Steps.{takes, offered, offered_at, far_end, route_by}
+use Rattle.search.specs.Steps.{takes, offered, offered_at, far_end, route_by, relax}
 use Rattle.search.proofs.Inv.{done, Reach, Kept, Phase, taken_fresh, taken_better, refused_seen, refused_worse, set-read, left_same, link_stays, left}
 
 -- the offer was taken at v
@@ -33,6 +34,18 @@ offer_read m x new ms v = go (takes m (at ms x) new.cost) refl
 offer_length : (m : Meaning) (x : ℕ) (new : Route) (ms : List Mark) → length (offered m x new ms) ≡ length ms
 offer_length m x new ms =
     elim (takes m (at ms x) new.cost) as (λ t. length (cond t (set ms x (Open new)) ms) ≡ length ms) [ true ↦ length-set ms x (Open new) | false ↦ refl ]
+
+end_length : (m : Meaning) (o : Option ℕ) (new : Route) (ms : List Mark) → length (offered_at m o new ms) ≡ length ms
+end_length m None new ms = refl
+end_length m (Some x) new ms = offer_length m x new ms
+
+pub relax_length : (m : Meaning) (al : List Bool) (k : SeenPit) (d : Duct) (ms : List Mark) → length (relax m al k d ms) ≡ length ms
+unfolding relax
+relax_length m al k d ms =
+    elim (may_use al d) as (λ t. length (cond t (offered_at m (far_end d k.pit) (route_by m k d) ms) ms) ≡ length ms) [
+      | true ↦ end_length m (far_end d k.pit) (route_by m k d) ms
+      | false ↦ refl
+    ]
 
 offer_left : (m : Meaning) (x : ℕ) (new : Route) (ms : List Mark) → left (offered m x new ms) ≡ left ms
 offer_left m x new ms = go (takes m (at ms x) new.cost) refl

@@ -60,8 +60,8 @@ module _ (means : Meaning) (keeps : Laws (read means)) (al : List Bool) (p : Pla
   abbrev pub Turning : List Mark → Type 0
   Turning ms = Inv (read means) (restricted al (plan_of p)) goal ms
 
-  pub run_starts : (n : ℕ) (clear : List Mark) (first : Route) → clear ≡ none_seen n → n ≡ p.pits → first ≡ goal_route (read means) goal → goal < n → Turning (set clear goal (Open first))
-  run_starts n clear first e f s l = rw (e, f, s) (begins (read means) (lawful means keeps) (restricted al (plan_of p)) goal (omega arith))
+  pub run_starts : (n : ℕ) (clear : List Mark) (first : Route) (begun : List Mark) → clear ≡ none_seen n → n ≡ p.pits → first ≡ goal_route (read means) goal → goal < n → begun ≡ set clear goal (Open first) → Turning begun
+  run_starts n clear first begun e f s l b = rw (b, e, f, s) (begins (read means) (lawful means keeps) (restricted al (plan_of p)) goal (omega arith))
 
   module _ (ms : List Mark) (inv : Turning ms) (o : Option SeenPit) (best : BestOpen (read means) ms 0 (length ms) o) where
     module _ (k : SeenPit) (is : o ≡ Some k) where

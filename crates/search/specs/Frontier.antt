@@ -1,6 +1,7 @@
 -- The frontier of a search: its open pits. A search goes on from the best of them.
 -- Pits are taken in blocks of 16, and of each block the best open pit is held.
 use Rattle.std.specs.Prelude.{◌≡◌, ℕ, ◌+◌, ◌*◌, ◌/◌, ◌<◌, ◌≤◌, true, false, cond, List, Some, None, Option, ◌≢◌, slice_index_or}
+use Rattle.std.proofs.Props.{props}
 use Rattle.measure.specs.Meaning.{Meaning, NoWorse}
 use Rattle.search.specs.declared.marks.Mark.{Mark}
 use Rattle.search.specs.declared.marks.Mark.TheVariants.{Unseen, Open, Settled}
@@ -50,3 +51,11 @@ Tracks m ms ws = (b : ℕ) → b < 32 → BlockHeld m ms ws b
 -- the same of each block but that of the pit x
 abbrev pub TracksOthers : Meaning → List Mark → ℕ → List (Option SeenPit) → Type 0
 TracksOthers m ms x ws = (b : ℕ) → b < 32 → (b ≢ x / 16) → BlockHeld m ms ws b
+
+-- such a fact has one proof, so a struct may hold it
+BestOpen-prop : (m : Meaning) (ms : List Mark) (low high : ℕ) (o : Option SeenPit) → IsProp (BestOpen m ms low high o)
+BestOpen-prop m ms low high None = hlevel props
+BestOpen-prop m ms low high (Some k) = hlevel props
+
+pub Tracks-prop : (m : Meaning) (ms : List Mark) (ws : List (Option SeenPit)) → IsProp (Tracks m ms ws)
+Tracks-prop m ms ws = hlevel (props, BestOpen-prop)

@@ -11,7 +11,7 @@ pub mod indexing;
 pub mod links;
 pub mod marks;
 mod reading;
-mod relaxing;
+mod running;
 pub mod searching;
 pub mod table;
 mod turns;

@@ -4,13 +4,13 @@ ghost use Rattle.measure.specs.Meaning.{read};
 ghost use Rattle.plan.specs.Refusals.{heard};
 ghost use Rattle.ways.specs.Theorems.{BestCosts};
 ghost use Rattle.search.specs.Searched.{plan_in, marks_of, Searched, Filled, check_goal};
-ghost use Rattle.search.specs.Steps.{none_seen, goal_route};
+ghost use Rattle.search.specs.Steps.{goal_route};
 
-use crate::frontier::Frontier;
+use crate::allowed::AllowedPlan;
 use crate::indexed::IndexedPlan;
 use crate::marks::{Mark, Route};
+use crate::running::Running;
 use crate::table::Table;
-use crate::{allowed, turns};
 use measure::Measure;
 use plan::refusals::Refusal;
 
@@ -33,7 +33,7 @@ pub fn search<M: Measure>(
     if goal >= indexed.plan.pit_count() {
         return Err(Refusal::OffPlan);
     }
-    run::<M>(indexed, allowed, goal, table);
+    run::<M>(&AllowedPlan { indexed, allowed }, goal, table);
     Ok(())
 }
 
@@ -43,31 +43,29 @@ fn best_costs<M: Measure>()
 {}
 
 // The search for a goal that is on the plan, in the places of the table that the plan needs.
-fn run<M: Measure>(indexed: &IndexedPlan, allowed: &[bool], goal: u16, table: &mut Table)
-    requires { goal < (plan_in indexed.now).pits }
-    ensures searched { Searched (read M.Measure.means) allowed.now (plan_in indexed.now) goal (marks_of table.new) }
-    ensures later { drop (plan_in indexed.now).pits table.new.marks ≡ drop (plan_in indexed.now).pits table.old.marks }
+fn run<M: Measure>(plan: &AllowedPlan, goal: u16, table: &mut Table)
+    requires { goal < (plan_in plan.now.indexed.now).pits }
+    ensures searched { Searched (read M.Measure.means) plan.now.allowed.now (plan_in plan.now.indexed.now) goal (marks_of table.new) }
+    ensures later { drop (plan_in plan.now.indexed.now).pits table.new.marks ≡ drop (plan_in plan.now.indexed.now).pits table.old.marks }
 {
-    let pits = indexed.plan.pits;
+    let pits = plan.indexed.plan.pits;
     table.pits = pits;
-    fill::<M>(indexed, allowed, goal, &mut table.marks[0..pits as usize]);
+    fill::<M>(plan, goal, &mut table.marks[0..pits as usize]);
 }
 
 // Fills the marks, one for each pit: the goal is opened, and then the best open pit has its turn until none is open.
-fn fill<M: Measure>(indexed: &IndexedPlan, allowed: &[bool], goal: u16, marks: &mut [Mark])
-    requires size { length marks.old ≡ (plan_in indexed.now).pits }
+fn fill<M: Measure>(plan: &AllowedPlan, goal: u16, marks: &mut [Mark])
+    requires size { length marks.old ≡ (plan_in plan.now.indexed.now).pits }
     requires below { goal < length marks.old }
-    ensures { Filled (read M.Measure.means) allowed.now (plan_in indexed.now) goal marks.new }
+    ensures { Filled (read M.Measure.means) plan.now.allowed.now (plan_in plan.now.indexed.now) goal marks.new }
 {
-    marks.fill(Mark::Unseen);
-    if !allowed::is_allowed(allowed, goal) {
+    let mut running = Running::<M>::new(marks);
+    if !plan.is_allowed(goal) {
         return;
     }
-    let mut frontier = Frontier::new();
-    marks[goal as usize] = Mark::Open(goal_route::<M>(goal));
-    frontier.update::<M>(marks, goal);
-    while let Some(from) = frontier.best::<M>() {
-        turns::turn::<M>(indexed, allowed, from, marks, &mut frontier);
+    running.put(goal, Mark::Open(goal_route::<M>(goal)));
+    while let Some(from) = running.best() {
+        running.turn(plan, from);
     }
 }
 

@@ -8,8 +8,8 @@ use Rattle.search.proofs.searching.run.Goals as goal
 
 pub invariant_of-table : goal.invariant_of-table
 invariant_of-table g c =
-    let n = c.args.indexed.now.plan.pits in
-    let small = c.args.indexed.now.plan.small in
+    let n = c.args.plan.now.indexed.now.plan.pits in
+    let small = c.args.plan.now.indexed.now.plan.small in
     let old = c.args.table.now.marks in
     let places = c.args.table.now.places in
     let e = filled_front n c.fill.new.marks _ c.fill.ensures.searched.places in
@@ -22,10 +22,10 @@ invariant_of-table g c =
 
 pub returns : goal.returns
 returns g c =
-    let n = c.args.indexed.now.plan.pits in
+    let n = c.args.plan.now.indexed.now.plan.pits in
     let size = c.fill.ensures.searched.places in
     let e = filled_front n c.fill.new.marks _ size in
     record {
-      searched = subst (Searched (read g.M.Measure.means) c.args.allowed.now (plan_of c.args.indexed.now.plan) c.args.goal) (sym e) c.fill.ensures.searched;
+      searched = subst (Searched (read g.M.Measure.means) c.args.plan.now.allowed.now (plan_of c.args.plan.now.indexed.now.plan) c.args.goal) (sym e) c.fill.ensures.searched;
       later = filled_later n c.args.table.now.marks c.fill.new.marks size;
     }
