@@ -115,24 +115,6 @@ none_open m ms high o e h v l = (rw e at h) v (omega arith) l
 pub tracks_none : (m : Meaning) (ms : List Mark) (ws : List (Option SeenPit)) → ((v : ℕ) → opens ms v ≡ false) → ws ≡ replicate 32 None → Tracks m ms ws
 tracks_none m ms ws f e b l = rw (e, get_or-replicate {A = Option SeenPit} 32 b None None l) (λ v k h. f v)
 
--- blocks in which no mark changes
-same_pits : (m : Meaning) (ms ns : List Mark) (low high : ℕ) → ((v : ℕ) → low ≤ v → v < high → at ns v ≡ at ms v) → (o : Option SeenPit) → BestOpen m ms low high o → BestOpen m ns low high o
-same_pits m ms ns low high f None h = λ v k l. rw (f v k l) (h v k l)
-same_pits m ms ns low high f (Some k) h =
-    let here = f k.pit h.from h.below in
-    record {
-      from = h.from;
-      below = h.below;
-      opened = rw here h.opened;
-      best = λ v s l o. (let there = f v s l in rw there (h.best v s l (rw there at o)));
-    }
-
--- the mark of x is another, so all blocks but that of x are still right
-pub tracks_set : (m : Meaning) (ms : List Mark) (x : ℕ) (k : Mark) (ws : List (Option SeenPit)) → Tracks m ms ws → TracksOthers m (set ms x k) x ws
-tracks_set m ms x k ws t b l ne =
-    same_pits m ms (set ms x k) (16 * b) (16 * b + 16)
-    (λ v f g. get_or-set_other ms x v k Unseen (λ e. ne (let w : b ≡ x / 16 = omega arith in w))) (held_of ws b) (t b l)
-
 -- the block of x was looked through again
 pub tracks_again : (m : Meaning) (ms : List Mark) (x : ℕ) (ws : List (Option SeenPit)) (r : Option SeenPit) → length ws ≡ 32 → x / 16 < 32 → TracksOthers m ms x ws → BestOpen m ms (16 * (x / 16)) (16 * (x / 16) + 16) r → Tracks m ms (set ws (x / 16) r)
 tracks_again m ms x ws r size l t h b k =

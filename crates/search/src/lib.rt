@@ -4,13 +4,10 @@
 #![tactic(auto)]
 
 mod allowed;
-pub mod answers;
 mod frontier;
 pub mod indexed;
-pub mod indexing;
 pub mod links;
 pub mod marks;
-mod reading;
 mod running;
 pub mod searching;
 pub mod table;

@@ -29,18 +29,12 @@ pub fn search<M: Measure>(
     ensures later { drop (plan_in indexed.now).pits table.new.marks ≡ drop (plan_in indexed.now).pits table.old.marks }
     ensures theorems { BestCosts (read M.Measure.means) }
 {
-    best_costs::<M>();
     if goal >= indexed.plan.pit_count() {
         return Err(Refusal::OffPlan);
     }
     run::<M>(&AllowedPlan { indexed, allowed }, goal, table);
     Ok(())
 }
-
-// Says what holds of best costs. Nothing is computed.
-fn best_costs<M: Measure>()
-    ensures { BestCosts (read M.Measure.means) }
-{}
 
 // The search for a goal that is on the plan, in the places of the table that the plan needs.
 fn run<M: Measure>(plan: &AllowedPlan, goal: u16, table: &mut Table)

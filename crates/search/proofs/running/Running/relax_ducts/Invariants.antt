@@ -8,7 +8,7 @@ abbrev pub invariant-loop-next : goal.invariant-loop-next
 invariant-loop-next g l = record {
   walk : Walk (read g.M.Measure.means) l.plan.allowed.now l.from l.ducts l.initial.self.marks.now l.next l.self.marks.now;
   same : l.self.marks.ghost_name ≡ l.initial.self.marks.ghost_name;
-  size : length l.self.marks.now ≡ length l.initial.self.marks.now
+  size : length l.self.marks.now ≡ length l.initial.self.marks.now;
 }
 
 abbrev pub decreases-loop-next : goal.decreases-loop-next

@@ -2,7 +2,7 @@ use Rattle.std.proofs.Common.{length, refl, ap, ◌∙◌, arith}
 use Rattle.plan.specs.Plans.{plan_of}
 use Rattle.plan.proofs.Ruling.{length-ducts}
 use Rattle.search.proofs.Chains.{index_blank, index_more, index_ends, in_range}
-use Rattle.search.proofs.indexing.index.Goals as goal
+use Rattle.search.proofs.indexed.index.Goals as goal
 
 pub loop-i-init : goal.loop-i-init
 loop-i-init c = index_blank c.ducts-duct-items.result.now 512 1024 refl refl

@@ -1,5 +1,5 @@
 use Rattle.search.proofs.Chains.{IndexedTo}
-use Rattle.search.proofs.indexing.index.Given as goal
+use Rattle.search.proofs.indexed.index.Given as goal
 
 -- the index of the ducts so far
 abbrev pub invariant-loop-i : goal.invariant-loop-i
