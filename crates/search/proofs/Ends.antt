@@ -1,7 +1,7 @@
 -- The beginning of a search and its end.
 use Rattle.std.proofs.Common.{◌≡◌, ℕ, zero, suc, ◌<◌, ◌≤◌, true, false, cond, eqb, ltb, ◌⊎◌, List, [], ◌∷◌, length, set, Some, sym, refl, ap, ◌∙◌, inl, inr, arith, length-set}
-use Rattle.std.specs.List.{AllByRecursion}
-use Rattle.std.proofs.ByRecursion.{All-weaker}
+use Rattle.std.specs.List.{All}
+use Rattle.std.proofs.lemmas.List.Elements.{All-nil, All-cons, All-head, All-tail, All-weaker}
 use Rattle.std.proofs.lemmas.List.{get_or-set_same, length-replicate}
 use Rattle.std.proofs.lemmas.Bool.{both_ways, ne_eqb, or_from, and_parts, and_from, ltb-true, eq-eqb}
 use Rattle.measure.specs.Meaning.{Meaning, NoWorse}
@@ -69,9 +69,9 @@ module _ (m : Meaning) (laws : Lawful m) (p : PlanSpec) (b : ℕ) (below : b < p
       }
 
 -- no pit of a way comes again, where each is nearer than the one before
-has-not : (ms : List Mark) (v k : ℕ) → (route_at ms v).hops ≡ k → (ys : List ℕ) → AllByRecursion (λ y. (route_at ms y).hops < k) ys → has v ys ≡ false
+has-not : (ms : List Mark) (v k : ℕ) → (route_at ms v).hops ≡ k → (ys : List ℕ) → All (λ y. (route_at ms y).hops < k) ys → has v ys ≡ false
 has-not ms v k q [] a = refl
-has-not ms v k q (y ∷ ys) a = or_from (eqb v y) (has v ys) (ne_eqb v y (λ e. (let l = ap (λ x. (route_at ms x).hops) e in omega (arith, a.0)))) (has-not ms v k q ys a.1)
+has-not ms v k q (y ∷ ys) a = or_from (eqb v y) (has v ys) (ne_eqb v y (λ e. (let l = ap (λ x. (route_at ms x).hops) e in let near = All-head (λ z. (route_at ms z).hops < k) y ys a in omega arith))) (has-not ms v k q ys (All-tail (λ z. (route_at ms z).hops < k) y ys a))
 
 known_cases : (k : Mark) (c : ℕ) → settled_cost k ≡ Some c → (is_settled k ≡ true) × ((route_of k).cost ≡ c)
 known_cases Unseen c e = (let z : ◌≡◌ {A = ℕ} 0 1 = cc in absurd (omega arith))
@@ -119,13 +119,13 @@ module _ (m : Meaning) (laws : Lawful m) (p : PlanSpec) (b : ℕ) (ms : List Mar
   record Chain (h v : ℕ) : Type 0 where
     leads : Leads p v b (onward ms h v)
     costs : cost_from m p v (onward ms h v) ≡ (route_at ms v).cost
-    nearer : AllByRecursion (λ y. (route_at ms y).hops < h) (onward ms h v)
+    nearer : All (λ y. (route_at ms y).hops < h) (onward ms h v)
     simple : Simple (v ∷ onward ms h v)
 
   chain : (h v : ℕ) → done ms v ≡ true → (route_at ms v).hops ≡ h → Chain h v
   chain zero v g e =
       elim (K.linked v (seen_done (at ms v) g)) [
-        | inl l ↦ record { leads = (l.here, below v (seen_done (at ms v) g)); costs = sym l.costs; nearer = tt; simple = (refl, tt) }
+        | inl l ↦ record { leads = (l.here, below v (seen_done (at ms v) g)); costs = sym l.costs; nearer = All-nil (λ y. (route_at ms y).hops < zero); simple = (refl, tt) }
         | inr l ↦ absurd (let n = l.nearer in omega arith)
       ]
   chain (suc h) v g e =
@@ -136,7 +136,7 @@ module _ (m : Meaning) (laws : Lawful m) (p : PlanSpec) (b : ℕ) (ms : List Mar
             let n = l.nearer in
             let hy : (route_at ms y).hops ≡ h = omega arith in
             let k = chain h y l.next hy in
-            let near : AllByRecursion (λ z. (route_at ms z).hops < suc h) (y ∷ onward ms h y) = (omega arith, All-weaker (λ z. (route_at ms z).hops < h) (λ z. (route_at ms z).hops < suc h) (λ z k. omega arith) (onward ms h y) k.nearer) in
+            let near : All (λ z. (route_at ms z).hops < suc h) (y ∷ onward ms h y) = All-cons (λ z. (route_at ms z).hops < suc h) y (onward ms h y) (omega arith) (All-weaker (λ z. (route_at ms z).hops < h) (λ z. (route_at ms z).hops < suc h) (λ z k. omega arith) (onward ms h y) k.nearer) in
             record {
               leads = (below v (seen_done (at ms v) g), l.duct, k.leads);
               costs = ap (m.join (across m p v y)) k.costs ∙ sym l.costs;

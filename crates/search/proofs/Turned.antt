@@ -1,6 +1,7 @@
 -- A whole turn: the best open pit is settled, and its ducts are relaxed.
 use Rattle.std.proofs.Common.{◌≡◌, ℕ, zero, suc, ◌<◌, ◌≤◌, Bool, true, false, cond, ◌&&◌, ◌⊎◌, List, [], ◌∷◌, length, is_some, Some, filter, sym, refl, ap, ◌∙◌, inl, inr, arith, length-set}
-use Rattle.std.specs.List.{AllByRecursion}
+use Rattle.std.specs.List.{All}
+use Rattle.std.proofs.lemmas.List.Elements.{All-from_recursion, All-head, All-tail}
 use Rattle.std.proofs.lemmas.List.{get_or-set_same}
 use Rattle.std.proofs.lemmas.Bool.{both_ways, cases_eq}
 use Rattle.measure.specs.Meaning.{Meaning}
@@ -113,13 +114,13 @@ module _ (m : Meaning) (laws : Lawful m) (p : PlanSpec) (b : ℕ) (ms : List Mar
       }
 
 -- what holds of each that passes holds of one that does
-kept_at : (P : Duct → Type 0) (t : Duct → Bool) (ds : List Duct) (j : ℕ) → AllByRecursion P (filter t ds) → j < length ds → t (duct_at ds j) ≡ true → P (duct_at ds j)
+kept_at : (P : Duct → Type 0) (t : Duct → Bool) (ds : List Duct) (j : ℕ) → All P (filter t ds) → j < length ds → t (duct_at ds j) ≡ true → P (duct_at ds j)
 kept_at P t [] j a l e = absurd (omega arith)
-kept_at P t (d ∷ ds) zero a l e = (rw e at a).0
+kept_at P t (d ∷ ds) zero a l e = All-head P d (filter t ds) (rw e at a)
 kept_at P t (d ∷ ds) (suc j) a l e = kept_at P t ds j (rest (t d) a) (omega arith) e
   where
-    rest : (s : Bool) → AllByRecursion P (cond s (d ∷ filter t ds) (filter t ds)) → AllByRecursion P (filter t ds)
-    rest true a = a.1
+    rest : (s : Bool) → All P (cond s (d ∷ filter t ds) (filter t ds)) → All P (filter t ds)
+    rest true a = All-tail P d (filter t ds) a
     rest false a = a
 
 -- where the duct between x and u stands
@@ -148,7 +149,7 @@ module _ (m : Meaning) (laws : Lawful m) (al : List Bool) (q : PlanSpec) (keep :
   Hit j ms = (x : ℕ) → may_use al (duct_at q.ducts j) ≡ true → joins (duct_at q.ducts j) x k.pit ≡ true → Reach m ms x (route_by m k (duct_at q.ducts j)).cost
 
   stands : (j : ℕ) → j < length q.ducts → may_use al (duct_at q.ducts j) ≡ true → Found p.pits p.ducts (duct_at q.ducts j)
-  stands j l e = kept_at (Found p.pits p.ducts) (may_use al) q.ducts j (found p.pits p.ducts (inside-keep al q.pits q.ducts keep)) l e
+  stands j l e = kept_at (Found p.pits p.ducts) (may_use al) q.ducts j (All-from_recursion (Found p.pits p.ducts) p.ducts (found p.pits p.ducts (inside-keep al q.pits q.ducts keep))) l e
 
   one_goes : (j : ℕ) (ms : List Mark) → j < length q.ducts → Phase m p b k ms
       → Goes m p b k ms (relax m al k (duct_at q.ducts j) ms) × Hit j (relax m al k (duct_at q.ducts j) ms)
