@@ -1,7 +1,7 @@
 -- The index: how it is made, and a walk along the ducts of one pit.
 use Rattle.std.proofs.Common.{◌≡◌, ℕ, zero, suc, ◌+◌, ◌<◌, ◌≤◌, Bool, true, false, cond, eqb, List, length, set, replicate, Some, None, Option, sym, refl, ap, ◌∙◌, subst, inl, inr, add-one, arith, length-set}
 use Rattle.std.proofs.lemmas.List.{get_or-set_same, get_or-set_other, get_or-replicate, length-replicate}
-use Rattle.std.proofs.lemmas.Bool.{both_ways, cases_eq, eq-eqb, ne_eqb, eqb-true, or_cases, or_parts, or_left, or_right, or_from}
+use Rattle.std.proofs.lemmas.Bool.{both_ways, cond_both, cases_eq, eq-eqb, ne_eqb, eqb-true, or_cases, or_parts, or_left, or_right, or_from}
 use Rattle.measure.specs.Meaning.{Meaning}
 use Rattle.plan.specs.declared.ducts.Duct.{Duct}
 use Rattle.plan.specs.Plans.{PlanSpec}
@@ -115,34 +115,29 @@ ahead (Some j) = suc j
 last_place : (ds : List Duct) (u i : ℕ) → i ≤ length ds → Place ds u (last_at ds u i)
 unfolding last_at
 last_place ds u zero l = tt
-last_place ds u (suc i) l = go (touches (duct_at ds i) u) refl (last_place ds u i (omega arith))
-  where
-    go : (t : Bool) → touches (duct_at ds i) u ≡ t → Place ds u (last_at ds u i) → Place ds u (cond t (Some i) (last_at ds u i))
-    go true e ih = (omega arith, e)
-    go false e ih = ih
+last_place ds u (suc i) l = cond_both (touches (duct_at ds i) u) (Some i) (last_at ds u i) (Place ds u) (λ e. (omega arith, e)) (λ e. last_place ds u i (omega arith))
 
 last_less : (ds : List Duct) (u i : ℕ) → ahead (last_at ds u i) ≤ i
 unfolding last_at
 last_less ds u zero = omega arith
-last_less ds u (suc i) = (let ih = last_less ds u i in elim (touches (duct_at ds i) u) as (λ t. ahead (cond t (Some i) (last_at ds u i)) ≤ suc i) [ true ↦ omega arith | false ↦ omega arith ])
+last_less ds u (suc i) = (let ih = last_less ds u i in cond_both (touches (duct_at ds i) u) (Some i) (last_at ds u i) (λ o. ahead o ≤ suc i) (λ e. omega arith) (λ e. omega arith))
 
 -- the duct before j at u
 before-is : (ds : List Duct) (ls : List Links) (n u j : ℕ) → LinksTo ds n ls → j < n → touches (duct_at ds j) u ≡ true → before (duct_at ds j) u (links_at ls j) ≡ last_at ds u j
-before-is ds ls n u j x l t = rw (x j l) (go (eqb (duct_at ds j).first u) refl)
-  where
-    go : (s : Bool) → eqb (duct_at ds j).first u ≡ s → cond s (last_at ds (duct_at ds j).first j) (last_at ds (duct_at ds j).second j) ≡ last_at ds u j
-    go true e = ap (λ z. last_at ds z j) (eqb-true (duct_at ds j).first u e)
-    go false e = elim (or_cases (eqb (duct_at ds j).first u) (eqb (duct_at ds j).second u) t) [
+before-is ds ls n u j x l t =
+    rw (x j l) (cond_both (eqb (duct_at ds j).first u) (last_at ds (duct_at ds j).first j) (last_at ds (duct_at ds j).second j) (λ o. o ≡ last_at ds u j)
+    (λ e. ap (λ z. last_at ds z j) (eqb-true (duct_at ds j).first u e))
+    (λ e. elim (or_cases (eqb (duct_at ds j).first u) (eqb (duct_at ds j).second u) t) [
       | inl k ↦ absurd (both_ways (eqb (duct_at ds j).first u) e k)
       | inr k ↦ ap (λ z. last_at ds z j) (eqb-true (duct_at ds j).second u k)
-    ]
+    ]))
 
 -- a duct that is not at u does nothing
 relax-away : (m : Meaning) (al : List Bool) (k : SeenPit) (d : Duct) (ms : List Mark) → touches d k.pit ≡ false → relax m al k d ms ≡ ms
 unfolding relax
 relax-away m al k d ms t =
     let (f, s) = or_parts (eqb d.first k.pit) (eqb d.second k.pit) t in
-    elim (may_use al d) as (λ v. cond v (offered_at m (far_end d k.pit) (route_by m k d) ms) ms ≡ ms) [ true ↦ rw (f, s) | false ↦ refl ]
+    cond_both (may_use al d) (offered_at m (far_end d k.pit) (route_by m k d) ms) ms (λ ns. ns ≡ ms) (λ e. rw (f, s)) (λ e. refl)
 
 module _ (m : Meaning) (al : List Bool) (k : SeenPit) (ds : List Duct) where
   -- what is left to do from a place on
@@ -153,11 +148,9 @@ module _ (m : Meaning) (al : List Bool) (k : SeenPit) (ds : List Duct) where
   rest_is : (i : ℕ) (ms : List Mark) → relax_down m al k ds i ms ≡ rest (last_at ds k.pit i) ms
   unfolding relax_down last_at
   rest_is zero ms = refl
-  rest_is (suc i) ms = go (touches (duct_at ds i) k.pit) refl (rest_is i ms)
-    where
-      go : (t : Bool) → touches (duct_at ds i) k.pit ≡ t → relax_down m al k ds i ms ≡ rest (last_at ds k.pit i) ms → relax_down m al k ds (suc i) ms ≡ rest (cond t (Some i) (last_at ds k.pit i)) ms
-      go true e ih = refl
-      go false e ih = ap (relax_down m al k ds i) (relax-away m al k (duct_at ds i) ms e) ∙ ih
+  rest_is (suc i) ms =
+      cond_both (touches (duct_at ds i) k.pit) (Some i) (last_at ds k.pit i) (λ o. relax_down m al k ds (suc i) ms ≡ rest o ms)
+      (λ e. refl) (λ e. ap (relax_down m al k ds i) (relax-away m al k (duct_at ds i) ms e) ∙ rest_is i ms)
 
   -- the walk is at the place o with the marks ms: the ducts from there on give what all of them give
   pub record Walk (old : List Mark) (o : Option ℕ) (ms : List Mark) : Type 0 where

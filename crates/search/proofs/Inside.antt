@@ -2,7 +2,7 @@
 use Rattle.std.proofs.Common.{◌≡◌, ℕ, ◌<◌, Bool, true, false, cond, ◌&&◌, eqb, List, [], ◌∷◌, is_some, Some, None, Option, sym, refl, ◌∙◌, ap₂, inl, inr}
 use Rattle.std.specs.List.{All}
 use Rattle.std.proofs.lemmas.List.Elements.{All-from_recursion, All-nil, All-cons, All-head, All-tail, All-weaker}
-use Rattle.std.proofs.lemmas.Bool.{both_ways, or_cases, and_parts, eqb-true}
+use Rattle.std.proofs.lemmas.Bool.{both_ways, cond_both, or_cases, and_parts, eqb-true}
 use Rattle.measure.specs.Meaning.{Meaning}
 use Rattle.plan.specs.declared.ducts.Duct.{Duct}
 use Rattle.plan.specs.Ducts.{joins, between, ducts_keep}
@@ -53,10 +53,8 @@ inside-keep al n (d ∷ ds) h =
     let f = keep_front n d ds h in
     let ih = inside-keep al n ds f.rest in
     let new : is_some (between (inside al ds) d.first d.second) ≡ false = rw (inside-between al ds d.first d.second) (is_some_cond _ _ f.new) in
-    elim (may_use al d) as (λ t. ducts_keep n (cond t (d ∷ inside al ds) (inside al ds)) ≡ true) [
-      | true ↦ keep_from n d (inside al ds) (record { own = f.own; new = new; rest = ih })
-      | false ↦ ih
-    ]
+    cond_both (may_use al d) (d ∷ inside al ds) (inside al ds) (λ es. ducts_keep n es ≡ true)
+    (λ e. keep_from n d (inside al ds) (record { own = f.own; new = new; rest = ih })) (λ e. ih)
 
 pub cond-some : (t : Bool) (o : Option Duct) → is_some (cond t o None) ≡ true → (t ≡ true) × (is_some o ≡ true)
 cond-some true o h = (refl, h)

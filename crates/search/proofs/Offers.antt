@@ -1,7 +1,7 @@
 -- An offer to one pit within a turn, and one duct relaxed.
 use Rattle.std.proofs.Common.{◌≡◌, ℕ, ◌<◌, Bool, true, false, cond, ◌&&◌, eqb, ◌⊎◌, List, length, set, is_some, Some, None, Option, refl, ap, ◌∙◌, inl, inr, add-one, arith, length-set}
 use Rattle.std.proofs.lemmas.List.{get_or-set_same}
-use Rattle.std.proofs.lemmas.Bool.{both_ways, or_cases, and_parts, eqb-true, ne_eqb}
+use Rattle.std.proofs.lemmas.Bool.{both_ways, cond_both, or_cases, and_parts, eqb-true, ne_eqb}
 use Rattle.measure.specs.Meaning.{Meaning, NoWorse}
 use Rattle.measure.proofs.Lawful.{Lawful, other_way, reflexive, longer}
 use Rattle.plan.specs.declared.ducts.Duct.{Duct}
@@ -25,15 +25,14 @@ pub record Took (m : Meaning) (x : ℕ) (new : Route) (ms : List Mark) (v : ℕ)
   pub better : takes m (at ms x) new.cost ≡ true
 
 offer_read : (m : Meaning) (x : ℕ) (new : Route) (ms : List Mark) (v : ℕ) → (at (offered m x new ms) v ≡ at ms v) ⊎ Took m x new ms v
-offer_read m x new ms v = go (takes m (at ms x) new.cost) refl
-  where
-    go : (t : Bool) → takes m (at ms x) new.cost ≡ t → (at (offered m x new ms) v ≡ at ms v) ⊎ Took m x new ms v
-    go false e = inl (rw e refl)
-    go true e = elim (set-read ms x (Open new) v) [ inl q ↦ inl (rw e q) | inr q ↦ inr (record { here = q.0; reads = rw e q.1; better = e }) ]
+offer_read m x new ms v =
+    cond_both (takes m (at ms x) new.cost) (set ms x (Open new)) ms (λ ns. (at ns v ≡ at ms v) ⊎ Took m x new ms v)
+    (λ e. elim (set-read ms x (Open new) v) [ inl q ↦ inl q | inr q ↦ inr (record { here = q.0; reads = rw e q.1; better = e }) ])
+    (λ e. inl refl)
 
 offer_length : (m : Meaning) (x : ℕ) (new : Route) (ms : List Mark) → length (offered m x new ms) ≡ length ms
 offer_length m x new ms =
-    elim (takes m (at ms x) new.cost) as (λ t. length (cond t (set ms x (Open new)) ms) ≡ length ms) [ true ↦ length-set ms x (Open new) | false ↦ refl ]
+    cond_both (takes m (at ms x) new.cost) (set ms x (Open new)) ms (λ ns. length ns ≡ length ms) (λ e. length-set ms x (Open new)) (λ e. refl)
 
 end_length : (m : Meaning) (o : Option ℕ) (new : Route) (ms : List Mark) → length (offered_at m o new ms) ≡ length ms
 end_length m None new ms = refl
@@ -42,17 +41,13 @@ end_length m (Some x) new ms = offer_length m x new ms
 pub relax_length : (m : Meaning) (al : List Bool) (k : SeenPit) (d : Duct) (ms : List Mark) → length (relax m al k d ms) ≡ length ms
 unfolding relax
 relax_length m al k d ms =
-    elim (may_use al d) as (λ t. length (cond t (offered_at m (far_end d k.pit) (route_by m k d) ms) ms) ≡ length ms) [
-      | true ↦ end_length m (far_end d k.pit) (route_by m k d) ms
-      | false ↦ refl
-    ]
+    cond_both (may_use al d) (offered_at m (far_end d k.pit) (route_by m k d) ms) ms (λ ns. length ns ≡ length ms)
+    (λ e. end_length m (far_end d k.pit) (route_by m k d) ms) (λ e. refl)
 
 offer_left : (m : Meaning) (x : ℕ) (new : Route) (ms : List Mark) → left (offered m x new ms) ≡ left ms
-offer_left m x new ms = go (takes m (at ms x) new.cost) refl
-  where
-    go : (t : Bool) → takes m (at ms x) new.cost ≡ t → left (cond t (set ms x (Open new)) ms) ≡ left ms
-    go false e = refl
-    go true e = left_same ms x (Open new) refl (taken_fresh m (at ms x) new.cost e)
+offer_left m x new ms =
+    cond_both (takes m (at ms x) new.cost) (set ms x (Open new)) ms (λ ns. left ns ≡ left ms)
+    (λ e. left_same ms x (Open new) refl (taken_fresh m (at ms x) new.cost e)) (λ e. refl)
 
 -- the way on to k is offered to x, by the duct d between them
 module _ (m : Meaning) (laws : Lawful m) (p : PlanSpec) (b : ℕ) (k : SeenPit) (ms : List Mark) (P : Phase m p b k ms) (d : Duct) (x : ℕ) (below : x < p.pits) (found : between p.ducts x k.pit ≡ Some d) where
@@ -89,20 +84,18 @@ module _ (m : Meaning) (laws : Lawful m) (p : PlanSpec) (b : ℕ) (k : SeenPit) 
       ]
 
   pub offer_hits : Reach m after x new.cost
-  offer_hits = go (takes m (at ms x) new.cost) refl
-    where
-      go : (t : Bool) → takes m (at ms x) new.cost ≡ t → Reach m (cond t (set ms x (Open new)) ms) x new.cost
-      go true e =
-          let reads = get_or-set_same ms x (Open new) Unseen (let s = P.kept.size in omega arith) in
-          record { is = rw reads refl; good = rw reads (reflexive m laws new.cost) }
-      go false e =
-          record {
-            is = refused_seen m (at ms x) new.cost e;
-            good = elim (refused_worse m (at ms x) new.cost e) [
-              | inl q ↦ laws.transitive (route_at ms x).cost k.route.cost new.cost (P.low x q) new_worse
-              | inr q ↦ q
-            ];
-          }
+  offer_hits =
+      let size = P.kept.size in
+      let reads = get_or-set_same ms x (Open new) Unseen (omega arith) in
+      cond_both (takes m (at ms x) new.cost) (set ms x (Open new)) ms (λ ns. Reach m ns x new.cost)
+      (λ e. record { is = rw reads refl; good = rw reads (reflexive m laws new.cost) })
+      (λ e. record {
+        is = refused_seen m (at ms x) new.cost e;
+        good = elim (refused_worse m (at ms x) new.cost e) [
+          | inl q ↦ laws.transitive (route_at ms x).cost k.route.cost new.cost (P.low x q) new_worse
+          | inr q ↦ q
+        ];
+      })
 
   -- the pit k stays settled
   still_here : at after k.pit ≡ Settled k.route

@@ -1,7 +1,7 @@
 -- The best open pit: of a block, one pit more; of all blocks, one block more; and where one mark changes.
 use Rattle.std.proofs.Common.{◌≡◌, ℕ, ◌+◌, ◌*◌, ◌/◌, ◌<◌, ◌≤◌, Bool, true, false, cond, List, length, set, replicate, Some, None, Option, refl, inl, inr, arith}
 use Rattle.std.proofs.lemmas.List.{get_or-set_same, get_or-set_other, get_or-replicate}
-use Rattle.std.proofs.lemmas.Bool.{both_ways, cases_lt, cases_eq}
+use Rattle.std.proofs.lemmas.Bool.{both_ways, cases_lt, cases_eq, cond_both, false_from_ne_true}
 use Rattle.measure.specs.Meaning.{Meaning, NoWorse}
 use Rattle.measure.proofs.Lawful.{Lawful, other_way, reflexive}
 use Rattle.search.specs.declared.marks.Mark.{Mark}
@@ -48,11 +48,10 @@ module _ (m : Meaning) (laws : Lawful m) (ms : List Mark) where
     better-both None None f g = none_both f g
     better-both (Some k) None f g = first-best k f (λ v s l o. absurd (both_ways (opens ms v) (g v s l) o))
     better-both None (Some i) f g = second-best i g (λ v s l o. absurd (both_ways (opens ms v) (f v s l) o))
-    better-both (Some k) (Some i) f g = go (m.no_worse k.route.cost i.route.cost) refl
-      where
-        go : (t : Bool) → m.no_worse k.route.cost i.route.cost ≡ t → BestOpen m ms low high (cond t (Some k) (Some i))
-        go true e = first-best k f (λ v s l o. laws.transitive k.route.cost i.route.cost (route_at ms v).cost e (g.best v s l o))
-        go false e = second-best i g (λ v s l o. laws.transitive i.route.cost k.route.cost (route_at ms v).cost (other_way m laws _ _ e) (f.best v s l o))
+    better-both (Some k) (Some i) f g =
+        cond_both (m.no_worse k.route.cost i.route.cost) (Some k) (Some i) (BestOpen m ms low high)
+        (λ e. first-best k f (λ v s l o. laws.transitive k.route.cost i.route.cost (route_at ms v).cost e (g.best v s l o)))
+        (λ e. second-best i g (λ v s l o. laws.transitive i.route.cost k.route.cost (route_at ms v).cost (other_way m laws _ _ e) (f.best v s l o)))
 
   -- the stretch of one pit
   one_pit : (n : ℕ) → BestOpen m ms n (n + 1) (open_at ms n)
@@ -84,14 +83,10 @@ module _ (m : Meaning) (laws : Lawful m) (ms : List Mark) where
 
   -- no pit is open past the end of the marks
   pub pick_to : (low n high : ℕ) (o : Option SeenPit) → length ms ≤ n → length ms ≤ high → BestOpen m ms low n o → BestOpen m ms low high o
-  pick_to low n high None f g h = λ v k l. elim (cases_lt v n) [ inl s ↦ h v k s | inr s ↦ closed v (omega arith) ]
-    where
-      closed : (v : ℕ) → length ms ≤ v → opens ms v ≡ false
-      closed v l = go (opens ms v) refl
-        where
-          go : (t : Bool) → opens ms v ≡ t → t ≡ false
-          go true e = absurd (let b = open_below ms v e in let w : ⊥ = omega arith in w)
-          go false e = refl
+  pick_to low n high None f g h = λ v k l. elim (cases_lt v n) [
+    | inl s ↦ h v k s
+    | inr s ↦ false_from_ne_true (opens ms v) (λ o. (let b = open_below ms v o in let w : ⊥ = omega arith in w))
+  ]
   pick_to low n high (Some k) f g h =
       let b = open_below ms k.pit (rw h.opened refl) in
       record {

@@ -3,7 +3,7 @@ use Rattle.std.proofs.Common.{◌≡◌, ℕ, zero, suc, ◌<◌, ◌≤◌, Boo
 use Rattle.std.specs.List.{All}
 use Rattle.std.proofs.lemmas.List.Elements.{All-from_recursion, All-head, All-tail}
 use Rattle.std.proofs.lemmas.List.{get_or-set_same}
-use Rattle.std.proofs.lemmas.Bool.{both_ways, cases_eq}
+use Rattle.std.proofs.lemmas.Bool.{both_ways, cond_both, cases_eq}
 use Rattle.measure.specs.Meaning.{Meaning}
 use Rattle.measure.proofs.Lawful.{Lawful, reflexive}
 use Rattle.plan.specs.declared.ducts.Duct.{Duct}
@@ -154,13 +154,10 @@ module _ (m : Meaning) (laws : Lawful m) (al : List Bool) (q : PlanSpec) (keep :
   one_goes : (j : ℕ) (ms : List Mark) → j < length q.ducts → Phase m p b k ms
       → Goes m p b k ms (relax m al k (duct_at q.ducts j) ms) × Hit j (relax m al k (duct_at q.ducts j) ms)
   unfolding relax
-  one_goes j ms l P = go (may_use al (duct_at q.ducts j)) refl
-    where
-      go : (t : Bool) → may_use al (duct_at q.ducts j) ≡ t
-          → Goes m p b k ms (cond t (offered_at m (far_end (duct_at q.ducts j) k.pit) (route_by m k (duct_at q.ducts j)) ms) ms)
-          × Hit j (cond t (offered_at m (far_end (duct_at q.ducts j) k.pit) (route_by m k (duct_at q.ducts j)) ms) ms)
-      go true e = (let (g, f) = end_goes m laws p b k (duct_at q.ducts j) ms (stands j l e) P in (g, λ x r i. f x i))
-      go false e = (goes_nowhere m p b k ms P, λ x r i. absurd (both_ways (may_use al (duct_at q.ducts j)) e r))
+  one_goes j ms l P =
+      cond_both (may_use al (duct_at q.ducts j)) (offered_at m (far_end (duct_at q.ducts j) k.pit) (route_by m k (duct_at q.ducts j)) ms) ms (λ ns. Goes m p b k ms ns × Hit j ns)
+      (λ e. (let (g, f) = end_goes m laws p b k (duct_at q.ducts j) ms (stands j l e) P in (g, λ x r i. f x i)))
+      (λ e. (goes_nowhere m p b k ms P, λ x r i. absurd (both_ways (may_use al (duct_at q.ducts j)) e r)))
 
   down_goes : (i : ℕ) (ms : List Mark) → i ≤ length q.ducts → Phase m p b k ms
       → Goes m p b k ms (relax_down m al k q.ducts i ms) × ((j : ℕ) → j < i → Hit j (relax_down m al k q.ducts i ms))
