@@ -44,6 +44,7 @@ fn run<M: Measure>(plan: &AllowedPlan, goal: u16, table: &mut Table)
 {
     let pits = plan.indexed.plan.pits;
     table.pits = pits;
+    // of a field that is lent, the range has to name its start, as the proof stands today
     fill::<M>(plan, goal, &mut table.marks[0..pits as usize]);
 }
 
