@@ -1,11 +1,12 @@
 -- The index: how it is made, and a walk along the ducts of one pit.
 use Rattle.std.proofs.Common.{◌≡◌, ℕ, zero, suc, ◌+◌, ◌<◌, ◌≤◌, Bool, true, false, cond, eqb, List, length, set, replicate, Some, None, Option, sym, refl, ap, ◌∙◌, subst, inl, inr, add-one, arith, length-set}
-use Rattle.std.proofs.lemmas.List.{get_or-set_same, get_or-set_other, get_or-replicate, length-replicate}
+use Rattle.std.proofs.lemmas.List.{get_or-set_same, get_or-set_other, get_or-replicate}
 use Rattle.std.proofs.lemmas.Bool.{both_ways, cond_both, cases_eq, eq-eqb, ne_eqb, eqb-true, or_cases, or_parts, or_left, or_right, or_from}
 use Rattle.measure.specs.Meaning.{Meaning}
 use Rattle.plan.specs.declared.ducts.Duct.{Duct}
 use Rattle.plan.specs.Plans.{PlanSpec}
 use Rattle.plan.specs.Rules.{Rules}
+use Rattle.search.specs.declared.index.Index.{Index}
 use Rattle.search.specs.declared.links.Links.{Links}
 use Rattle.search.specs.declared.marks.Mark.{Mark}
 use Rattle.search.specs.declared.marks.SeenPit.{SeenPit}
@@ -44,38 +45,32 @@ links_more ds i hs ls l w f g j k =
     ]
 
 -- the index of the first i ducts
-pub record IndexedTo (ds : List Duct) (i : ℕ) (hs : List (Option ℕ)) (ls : List Links) : Type 0 where
-  pub wide : length hs ≡ 512
-  pub long : length ls ≡ 1024
-  pub heads : HeadsTo ds i hs
-  pub links : LinksTo ds i ls
+pub record IndexedTo (ds : List Duct) (i : ℕ) (x : Index) : Type 0 where
+  pub heads : HeadsTo ds i x.heads
+  pub links : LinksTo ds i x.links
 
-pub index_more : (ds : List Duct) (i : ℕ) (hs hs' : List (Option ℕ)) (ls ls' : List Links) → i < 1024 → Within 512 (duct_at ds i) → IndexedTo ds i hs ls
-    → hs' ≡ put_heads hs (duct_at ds i) i → ls' ≡ put_links ls hs (duct_at ds i) i → IndexedTo ds (i + 1) hs' ls'
-index_more ds i hs hs' ls ls' l w x eh el =
+pub index_more : (ds : List Duct) (i : ℕ) (x y : Index) → i < 1024 → Within 512 (duct_at ds i) → IndexedTo ds i x
+    → y.heads ≡ put_heads x.heads (duct_at ds i) i → y.links ≡ put_links x.links x.heads (duct_at ds i) i → IndexedTo ds (i + 1) y
+index_more ds i x y l w k eh el =
     let wide = x.wide in
     let long = x.long in
     record {
-      wide = ap length eh ∙ length-set (set hs (duct_at ds i).first (Some i)) (duct_at ds i).second (Some i) ∙ length-set hs (duct_at ds i).first (Some i) ∙ x.wide;
-      long = ap length el ∙ length-set ls i _ ∙ x.long;
-      heads = subst (HeadsTo ds (i + 1)) (sym eh) (heads_more ds i hs x.heads);
-      links = subst (LinksTo ds (i + 1)) (sym el) (links_more ds i hs ls (omega arith) (rw wide w) x.heads x.links);
+      heads = subst (HeadsTo ds (i + 1)) (sym eh) (heads_more ds i x.heads k.heads);
+      links = subst (LinksTo ds (i + 1)) (sym el) (links_more ds i x.heads x.links (omega arith) (rw wide w) k.heads k.links);
     }
 
--- no duct yet, in tables with nothing in them
-pub index_blank : (ds : List Duct) (n k : ℕ) → n ≡ 512 → k ≡ 1024 → IndexedTo ds 0 (replicate n None) (replicate k (record { first = None; second = None }))
+-- no duct yet, in an index with nothing in it
+pub index_blank : (ds : List Duct) (x : Index) → x.heads ≡ replicate 512 None → IndexedTo ds 0 x
 unfolding last_at
-index_blank ds n k w l =
+index_blank ds x e =
     record {
-      wide = length-replicate n None ∙ w;
-      long = length-replicate k (record { first = None; second = None }) ∙ l;
-      heads = λ u b. get_or-replicate n u None None (rw (length-replicate {A = Option ℕ} n None) at b);
+      heads = λ u b. rw e (get_or-replicate 512 u None None (let wide = x.wide in omega arith));
       links = λ j b. absurd (omega arith);
     }
 
 -- what is indexed is a plan's
-pub index_ends : (ds es : List Duct) (i n : ℕ) (hs : List (Option ℕ)) (ls : List Links) → ds ≡ es → i ≡ n → IndexedTo ds i hs ls → IndexedTo es n hs ls
-index_ends ds es i n hs ls e f x = rw (← e, ← f) x
+pub index_ends : (ds es : List Duct) (i n : ℕ) (x : Index) → ds ≡ es → i ≡ n → IndexedTo ds i x → IndexedTo es n x
+index_ends ds es i n x e f k = rw (← e, ← f) k
 
 pub in_range : (p : PlanSpec) → Rules p → (ds : List Duct) → ds ≡ p.ducts → (i : ℕ) → i < length ds → (i < 1024) × Within 512 (duct_at ds i)
 in_range p rules ds e i l =

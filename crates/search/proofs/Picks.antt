@@ -1,5 +1,5 @@
 -- The best open pit: of a block, one pit more; of all blocks, one block more; and where one mark changes.
-use Rattle.std.proofs.Common.{◌≡◌, ℕ, ◌+◌, ◌*◌, ◌/◌, ◌<◌, ◌≤◌, Bool, true, false, cond, List, length, set, replicate, Some, None, Option, refl, inl, inr, arith}
+use Rattle.std.proofs.Common.{◌≡◌, ℕ, ◌+◌, ◌*◌, ◌/◌, ◌<◌, ◌≤◌, true, false, List, length, set, replicate, Some, None, Option, refl, inl, inr, arith}
 use Rattle.std.proofs.lemmas.List.{get_or-set_same, get_or-set_other, get_or-replicate}
 use Rattle.std.proofs.lemmas.Bool.{both_ways, cases_lt, cases_eq, cond_both, false_from_ne_true}
 use Rattle.measure.specs.Meaning.{Meaning, NoWorse}

@@ -31,25 +31,25 @@ module _ (m : Meaning) (x : IndexedPlan) (al : List Bool) (k : SeenPit) (ds : Li
   abbrev pub Walks : List Mark → Option ℕ → List Mark → Type 0
   Walks old o ms = Walk m al k ds old o ms
 
-  pub ducts-start : (ms : List Mark) → k.pit < (plan_in x).pits → Walks ms (head_at x.heads k.pit) ms
+  pub ducts-start : (ms : List Mark) → k.pit < (plan_in x).pits → Walks ms (head_at x.index.heads k.pit) ms
   ducts-start ms l =
       let small = x.plan.small in
-      let wide = x.wide in
-      walk_starts m al k ds x.heads ms (starts_of ds (plan_in x).ducts x.plan.count x.heads is (length-ducts x.plan) x.starts) (omega arith)
+      let wide = x.index.wide in
+      walk_starts m al k ds x.index.heads ms (starts_of ds (plan_in x).ducts x.plan.count x.index.heads is (length-ducts x.plan) x.starts) (omega arith)
 
   module _ (old ms : List Mark) (o : Option ℕ) (j : ℕ) (at_j : o ≡ Some j) (w : Walks old o ms) where
-    links : LinksTo ds (length ds) x.links
-    links = chained_of ds (plan_in x).ducts x.plan.count x.links is (length-ducts x.plan) x.chained
+    links : LinksTo ds (length ds) x.index.links
+    links = chained_of ds (plan_in x).ducts x.plan.count x.index.links is (length-ducts x.plan) x.chained
 
     pub ducts-within : (n : ℕ) → n ≡ (plan_in x).pits → Within n (duct_at ds j)
-    ducts-within n e = within_plan (plan_in x) (plan-rules x.plan) ds is j n (walk_at m al k ds x.links links old ms o j at_j w).0 e
+    ducts-within n e = within_plan (plan_in x) (plan-rules x.plan) ds is j n (walk_at m al k ds x.index.links links old ms o j at_j w).0 e
 
-    module _ (o' : Option ℕ) (q : o' ≡ before (duct_at ds j) k.pit (links_at x.links j)) where
+    module _ (o' : Option ℕ) (q : o' ≡ before (duct_at ds j) k.pit (links_at x.index.links j)) where
       pub ducts-fall : ahead o' < ahead o
-      ducts-fall = walk-falls m al k ds x.links links old ms o j at_j w o' q
+      ducts-fall = walk-falls m al k ds x.index.links links old ms o j at_j w o' q
 
       pub ducts-more : (ns : List Mark) → ns ≡ relax m al k (duct_at ds j) ms → Walks old o' ns
-      ducts-more ns e = walk_more m al k ds x.links links old ms o j at_j w o' q ns e
+      ducts-more ns e = walk_more m al k ds x.index.links links old ms o j at_j w o' q ns e
 
   pub ducts-end : (old ms : List Mark) (o : Option ℕ) → o ≡ None → Walks old o ms → ms ≡ relax_down m al k (plan_in x).ducts (length (plan_in x).ducts) old
   ducts-end old ms o e w = walk_ends m al k ds old ms o e w ∙ ap (λ (es : List Duct). relax_down m al k es (length es) old) is

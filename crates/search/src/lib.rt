@@ -5,6 +5,7 @@
 
 mod allowed;
 mod frontier;
+mod index;
 pub mod indexed;
 pub mod links;
 pub mod marks;

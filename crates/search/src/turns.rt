@@ -35,11 +35,11 @@ impl<M: Measure> Running<'_, M> {
     {
         let indexed = plan.indexed;
         let ducts = indexed.plan.ducts();
-        let mut next = indexed.heads[from.pit as usize];
+        let mut next = indexed.index.heads[from.pit as usize];
         while let Some(place) = next {
             let duct = ducts[place as usize];
             self.relax(plan, duct, from);
-            next = indexed.links[place as usize].before(duct, from.pit);
+            next = indexed.index.links[place as usize].before(duct, from.pit);
         }
     }
 

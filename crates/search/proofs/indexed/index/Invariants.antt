@@ -3,4 +3,4 @@ use Rattle.search.proofs.indexed.index.Given as goal
 
 -- the index of the ducts so far
 abbrev pub invariant-loop-i : goal.invariant-loop-i
-invariant-loop-i l = IndexedTo l.duct-items l.i l.heads l.links
+invariant-loop-i l = IndexedTo l.duct-items l.i l.index
