@@ -1,16 +1,18 @@
 -- The index: how it is made, and a walk along the ducts of one pit.
 use Rattle.std.proofs.Common.{◌≡◌, ℕ, zero, suc, ◌+◌, ◌<◌, ◌≤◌, Bool, true, false, cond, eqb, List, length, set, replicate, Some, None, Option, sym, refl, ap, ◌∙◌, subst, inl, inr, add-one, arith, length-set}
-use Rattle.std.proofs.lemmas.List.{get_or-set_same, get_or-set_other, get_or-replicate, length-replicate}
-use Rattle.std.proofs.lemmas.Bool.{both_ways, cases_eq, eq-eqb, ne_eqb, eqb-true, or_cases, or_parts, or_left, or_right, or_from}
+use Rattle.std.proofs.lemmas.List.{get_or-set_same, get_or-set_other, get_or-replicate}
+use Rattle.std.proofs.lemmas.Bool.{both_ways, cond_both, cases_eq, eq-eqb, ne_eqb, eqb-true, or_cases, or_parts, or_left, or_right, or_from}
 use Rattle.measure.specs.Meaning.{Meaning}
 use Rattle.plan.specs.declared.ducts.Duct.{Duct}
 use Rattle.plan.specs.Plans.{PlanSpec}
 use Rattle.plan.specs.Rules.{Rules}
+use Rattle.search.specs.declared.index.Index.{Index}
 use Rattle.search.specs.declared.links.Links.{Links}
 use Rattle.search.specs.declared.marks.Mark.{Mark}
+use Rattle.search.specs.declared.marks.SeenPit.{SeenPit}
 use Rattle.search.specs.Allowed.{may_use}
 use Rattle.search.specs.Index.{duct_at, touches, last_at, links_of, head_at, links_at, HeadsTo, LinksTo, before, put_heads, put_links}
-use Rattle.search.specs.Steps.{Within, far_end, mark_by, offered_at, relax, relax_down}
+use Rattle.search.specs.Steps.{Within, far_end, route_by, offered_at, relax, relax_down}
 
 -- one more duct
 head_more : (ds : List Duct) (i : ℕ) (hs : List (Option ℕ)) (u : ℕ) → u < length hs → head_at hs u ≡ last_at ds u i → head_at (put_heads hs (duct_at ds i) i) u ≡ cond (touches (duct_at ds i) u) (Some i) (last_at ds u i)
@@ -43,38 +45,32 @@ links_more ds i hs ls l w f g j k =
     ]
 
 -- the index of the first i ducts
-pub record IndexedTo (ds : List Duct) (i : ℕ) (hs : List (Option ℕ)) (ls : List Links) : Type 0 where
-  pub wide : length hs ≡ 512
-  pub long : length ls ≡ 1024
-  pub heads : HeadsTo ds i hs
-  pub links : LinksTo ds i ls
+pub record IndexedTo (ds : List Duct) (i : ℕ) (x : Index) : Type 0 where
+  pub heads : HeadsTo ds i x.heads
+  pub links : LinksTo ds i x.links
 
-pub index_more : (ds : List Duct) (i : ℕ) (hs hs' : List (Option ℕ)) (ls ls' : List Links) → i < 1024 → Within 512 (duct_at ds i) → IndexedTo ds i hs ls
-    → hs' ≡ put_heads hs (duct_at ds i) i → ls' ≡ put_links ls hs (duct_at ds i) i → IndexedTo ds (i + 1) hs' ls'
-index_more ds i hs hs' ls ls' l w x eh el =
+pub index_more : (ds : List Duct) (i : ℕ) (x y : Index) → i < 1024 → Within 512 (duct_at ds i) → IndexedTo ds i x
+    → y.heads ≡ put_heads x.heads (duct_at ds i) i → y.links ≡ put_links x.links x.heads (duct_at ds i) i → IndexedTo ds (i + 1) y
+index_more ds i x y l w k eh el =
     let wide = x.wide in
     let long = x.long in
     record {
-      wide = ap length eh ∙ length-set (set hs (duct_at ds i).first (Some i)) (duct_at ds i).second (Some i) ∙ length-set hs (duct_at ds i).first (Some i) ∙ x.wide;
-      long = ap length el ∙ length-set ls i _ ∙ x.long;
-      heads = subst (HeadsTo ds (i + 1)) (sym eh) (heads_more ds i hs x.heads);
-      links = subst (LinksTo ds (i + 1)) (sym el) (links_more ds i hs ls (omega arith) (rw wide w) x.heads x.links);
+      heads = subst (HeadsTo ds (i + 1)) (sym eh) (heads_more ds i x.heads k.heads);
+      links = subst (LinksTo ds (i + 1)) (sym el) (links_more ds i x.heads x.links (omega arith) (rw wide w) k.heads k.links);
     }
 
--- no duct yet, in tables with nothing in them
-pub index_blank : (ds : List Duct) (n k : ℕ) → n ≡ 512 → k ≡ 1024 → IndexedTo ds 0 (replicate n None) (replicate k (record { first = None; second = None }))
+-- no duct yet, in an index with nothing in it
+pub index_blank : (ds : List Duct) (x : Index) → x.heads ≡ replicate 512 None → IndexedTo ds 0 x
 unfolding last_at
-index_blank ds n k w l =
+index_blank ds x e =
     record {
-      wide = length-replicate n None ∙ w;
-      long = length-replicate k (record { first = None; second = None }) ∙ l;
-      heads = λ u b. get_or-replicate n u None None (rw (length-replicate {A = Option ℕ} n None) at b);
+      heads = λ u b. rw e (get_or-replicate 512 u None None (let wide = x.wide in omega arith));
       links = λ j b. absurd (omega arith);
     }
 
 -- what is indexed is a plan's
-pub index_ends : (ds es : List Duct) (i n : ℕ) (hs : List (Option ℕ)) (ls : List Links) → ds ≡ es → i ≡ n → IndexedTo ds i hs ls → IndexedTo es n hs ls
-index_ends ds es i n hs ls e f x = rw (← e, ← f) x
+pub index_ends : (ds es : List Duct) (i n : ℕ) (x : Index) → ds ≡ es → i ≡ n → IndexedTo ds i x → IndexedTo es n x
+index_ends ds es i n x e f k = rw (← e, ← f) k
 
 pub in_range : (p : PlanSpec) → Rules p → (ds : List Duct) → ds ≡ p.ducts → (i : ℕ) → i < length ds → (i < 1024) × Within 512 (duct_at ds i)
 in_range p rules ds e i l =
@@ -114,78 +110,71 @@ ahead (Some j) = suc j
 last_place : (ds : List Duct) (u i : ℕ) → i ≤ length ds → Place ds u (last_at ds u i)
 unfolding last_at
 last_place ds u zero l = tt
-last_place ds u (suc i) l = go (touches (duct_at ds i) u) refl (last_place ds u i (omega arith))
-  where
-    go : (t : Bool) → touches (duct_at ds i) u ≡ t → Place ds u (last_at ds u i) → Place ds u (cond t (Some i) (last_at ds u i))
-    go true e ih = (omega arith, e)
-    go false e ih = ih
+last_place ds u (suc i) l = cond_both (touches (duct_at ds i) u) (Some i) (last_at ds u i) (Place ds u) (λ e. (omega arith, e)) (λ e. last_place ds u i (omega arith))
 
 last_less : (ds : List Duct) (u i : ℕ) → ahead (last_at ds u i) ≤ i
 unfolding last_at
 last_less ds u zero = omega arith
-last_less ds u (suc i) = (let ih = last_less ds u i in elim (touches (duct_at ds i) u) as (λ t. ahead (cond t (Some i) (last_at ds u i)) ≤ suc i) [ true ↦ omega arith | false ↦ omega arith ])
+last_less ds u (suc i) = (let ih = last_less ds u i in cond_both (touches (duct_at ds i) u) (Some i) (last_at ds u i) (λ o. ahead o ≤ suc i) (λ e. omega arith) (λ e. omega arith))
 
 -- the duct before j at u
 before-is : (ds : List Duct) (ls : List Links) (n u j : ℕ) → LinksTo ds n ls → j < n → touches (duct_at ds j) u ≡ true → before (duct_at ds j) u (links_at ls j) ≡ last_at ds u j
-before-is ds ls n u j x l t = rw (x j l) (go (eqb (duct_at ds j).first u) refl)
-  where
-    go : (s : Bool) → eqb (duct_at ds j).first u ≡ s → cond s (last_at ds (duct_at ds j).first j) (last_at ds (duct_at ds j).second j) ≡ last_at ds u j
-    go true e = ap (λ z. last_at ds z j) (eqb-true (duct_at ds j).first u e)
-    go false e = elim (or_cases (eqb (duct_at ds j).first u) (eqb (duct_at ds j).second u) t) [
+before-is ds ls n u j x l t =
+    rw (x j l) (cond_both (eqb (duct_at ds j).first u) (last_at ds (duct_at ds j).first j) (last_at ds (duct_at ds j).second j) (λ o. o ≡ last_at ds u j)
+    (λ e. ap (λ z. last_at ds z j) (eqb-true (duct_at ds j).first u e))
+    (λ e. elim (or_cases (eqb (duct_at ds j).first u) (eqb (duct_at ds j).second u) t) [
       | inl k ↦ absurd (both_ways (eqb (duct_at ds j).first u) e k)
       | inr k ↦ ap (λ z. last_at ds z j) (eqb-true (duct_at ds j).second u k)
-    ]
+    ]))
 
 -- a duct that is not at u does nothing
-relax-away : (m : Meaning) (al : List Bool) (u c h : ℕ) (d : Duct) (ms : List Mark) → touches d u ≡ false → relax m al u c h d ms ≡ ms
+relax-away : (m : Meaning) (al : List Bool) (k : SeenPit) (d : Duct) (ms : List Mark) → touches d k.pit ≡ false → relax m al k d ms ≡ ms
 unfolding relax
-relax-away m al u c h d ms t =
-    let (f, s) = or_parts (eqb d.first u) (eqb d.second u) t in
-    elim (may_use al d) as (λ v. cond v (offered_at m (far_end d u) (mark_by m u c h d) ms) ms ≡ ms) [ true ↦ rw (f, s) | false ↦ refl ]
+relax-away m al k d ms t =
+    let (f, s) = or_parts (eqb d.first k.pit) (eqb d.second k.pit) t in
+    cond_both (may_use al d) (offered_at m (far_end d k.pit) (route_by m k d) ms) ms (λ ns. ns ≡ ms) (λ e. rw (f, s)) (λ e. refl)
 
-module _ (m : Meaning) (al : List Bool) (u c h : ℕ) (ds : List Duct) where
+module _ (m : Meaning) (al : List Bool) (k : SeenPit) (ds : List Duct) where
   -- what is left to do from a place on
   abbrev pub rest : Option ℕ → List Mark → List Mark
   rest None ms = ms
-  rest (Some j) ms = relax_down m al u c h ds (suc j) ms
+  rest (Some j) ms = relax_down m al k ds (suc j) ms
 
-  rest_is : (i : ℕ) (ms : List Mark) → relax_down m al u c h ds i ms ≡ rest (last_at ds u i) ms
+  rest_is : (i : ℕ) (ms : List Mark) → relax_down m al k ds i ms ≡ rest (last_at ds k.pit i) ms
   unfolding relax_down last_at
   rest_is zero ms = refl
-  rest_is (suc i) ms = go (touches (duct_at ds i) u) refl (rest_is i ms)
-    where
-      go : (t : Bool) → touches (duct_at ds i) u ≡ t → relax_down m al u c h ds i ms ≡ rest (last_at ds u i) ms → relax_down m al u c h ds (suc i) ms ≡ rest (cond t (Some i) (last_at ds u i)) ms
-      go true e ih = refl
-      go false e ih = ap (relax_down m al u c h ds i) (relax-away m al u c h (duct_at ds i) ms e) ∙ ih
+  rest_is (suc i) ms =
+      cond_both (touches (duct_at ds i) k.pit) (Some i) (last_at ds k.pit i) (λ o. relax_down m al k ds (suc i) ms ≡ rest o ms)
+      (λ e. refl) (λ e. ap (relax_down m al k ds i) (relax-away m al k (duct_at ds i) ms e) ∙ rest_is i ms)
 
   -- the walk is at the place o with the marks ms: the ducts from there on give what all of them give
   pub record Walk (old : List Mark) (o : Option ℕ) (ms : List Mark) : Type 0 where
-    pub place : Place ds u o
-    pub gives : relax_down m al u c h ds (length ds) old ≡ rest o ms
+    pub place : Place ds k.pit o
+    pub gives : relax_down m al k ds (length ds) old ≡ rest o ms
 
-  pub walk_starts : (hs : List (Option ℕ)) (ms : List Mark) → HeadsTo ds (length ds) hs → u < length hs → Walk ms (head_at hs u) ms
+  pub walk_starts : (hs : List (Option ℕ)) (ms : List Mark) → HeadsTo ds (length ds) hs → k.pit < length hs → Walk ms (head_at hs k.pit) ms
   walk_starts hs ms x l =
-      let e = x u l in
-      record { place = rw e (last_place ds u (length ds) (omega arith)); gives = rw e (rest_is (length ds) ms) }
+      let e = x k.pit l in
+      record { place = rw e (last_place ds k.pit (length ds) (omega arith)); gives = rw e (rest_is (length ds) ms) }
 
   module _ (ls : List Links) (x : LinksTo ds (length ds) ls) (old ms : List Mark) (o : Option ℕ) (j : ℕ) (is : o ≡ Some j) (w : Walk old o ms) where
-    pub walk_at : (j < length ds) × (touches (duct_at ds j) u ≡ true)
+    pub walk_at : (j < length ds) × (touches (duct_at ds j) k.pit ≡ true)
     walk_at = rw is at w.place
 
-    module _ (o' : Option ℕ) (q : o' ≡ before (duct_at ds j) u (links_at ls j)) where
-      next-is : o' ≡ last_at ds u j
-      next-is = (let (l, t) = walk_at in q ∙ before-is ds ls (length ds) u j x l t)
+    module _ (o' : Option ℕ) (q : o' ≡ before (duct_at ds j) k.pit (links_at ls j)) where
+      next-is : o' ≡ last_at ds k.pit j
+      next-is = (let (l, t) = walk_at in q ∙ before-is ds ls (length ds) k.pit j x l t)
 
       pub walk-falls : ahead o' < ahead o
-      walk-falls = rw (is, next-is) (let l = last_less ds u j in omega arith)
+      walk-falls = rw (is, next-is) (let l = last_less ds k.pit j in omega arith)
 
-      pub walk_more : (ns : List Mark) → ns ≡ relax m al u c h (duct_at ds j) ms → Walk old o' ns
+      pub walk_more : (ns : List Mark) → ns ≡ relax m al k (duct_at ds j) ms → Walk old o' ns
       unfolding relax_down
       walk_more ns e =
           record {
-            place = rw next-is (last_place ds u j (let k = walk_at.0 in omega arith));
+            place = rw next-is (last_place ds k.pit j (let l = walk_at.0 in omega arith));
             gives = rw (next-is, ← (rest_is j ns), e) (w.gives ∙ ap (λ z. rest z ms) is);
           }
 
-  pub walk_ends : (old ms : List Mark) (o : Option ℕ) → o ≡ None → Walk old o ms → ms ≡ relax_down m al u c h ds (length ds) old
+  pub walk_ends : (old ms : List Mark) (o : Option ℕ) → o ≡ None → Walk old o ms → ms ≡ relax_down m al k ds (length ds) old
   walk_ends old ms o e w = sym (w.gives ∙ ap (λ z. rest z ms) e)

@@ -1,8 +1,8 @@
 -- The ducts between allowed pits, and the ways over them.
 use Rattle.std.proofs.Common.{◌≡◌, ℕ, ◌<◌, Bool, true, false, cond, ◌&&◌, eqb, List, [], ◌∷◌, is_some, Some, None, Option, sym, refl, ◌∙◌, ap₂, inl, inr}
-use Rattle.std.specs.List.{AllByRecursion}
-use Rattle.std.proofs.ByRecursion.{All-weaker}
-use Rattle.std.proofs.lemmas.Bool.{both_ways, or_cases, and_parts, eqb-true}
+use Rattle.std.specs.List.{All}
+use Rattle.std.proofs.lemmas.List.Elements.{All-from_recursion, All-nil, All-cons, All-head, All-tail, All-weaker}
+use Rattle.std.proofs.lemmas.Bool.{both_ways, cond_both, or_cases, and_parts, eqb-true}
 use Rattle.measure.specs.Meaning.{Meaning}
 use Rattle.plan.specs.declared.ducts.Duct.{Duct}
 use Rattle.plan.specs.Ducts.{joins, between, ducts_keep}
@@ -53,14 +53,16 @@ inside-keep al n (d ∷ ds) h =
     let f = keep_front n d ds h in
     let ih = inside-keep al n ds f.rest in
     let new : is_some (between (inside al ds) d.first d.second) ≡ false = rw (inside-between al ds d.first d.second) (is_some_cond _ _ f.new) in
-    elim (may_use al d) as (λ t. ducts_keep n (cond t (d ∷ inside al ds) (inside al ds)) ≡ true) [
-      | true ↦ keep_from n d (inside al ds) (record { own = f.own; new = new; rest = ih })
-      | false ↦ ih
-    ]
+    cond_both (may_use al d) (d ∷ inside al ds) (inside al ds) (λ es. ducts_keep n es ≡ true)
+    (λ e. keep_from n d (inside al ds) (record { own = f.own; new = new; rest = ih })) (λ e. ih)
 
 pub cond-some : (t : Bool) (o : Option Duct) → is_some (cond t o None) ≡ true → (t ≡ true) × (is_some o ≡ true)
 cond-some true o h = (refl, h)
 cond-some false o h = absurd (both_ways false refl h)
+
+-- the pit x is allowed
+abbrev Ok : List Bool → ℕ → Type 0
+Ok al x = is_allowed al x ≡ true
 
 module _ (al : List Bool) (p : PlanSpec) where
   step_into : (a x : ℕ) → is_some (between (inside al p.ducts) a x) ≡ true → (is_allowed al a ≡ true) × (is_allowed al x ≡ true) × (is_some (between p.ducts a x) ≡ true)
@@ -69,19 +71,20 @@ module _ (al : List Bool) (p : PlanSpec) where
       let (ra, rx) = and_parts (is_allowed al a) (is_allowed al x) t in (ra, rx, q)
 
   module _ (b : ℕ) where
-    leads-into : (a : ℕ) (ps : List ℕ) → is_allowed al b ≡ true → Leads (restricted al p) a b ps → Leads p a b ps × AllByRecursion (λ x. is_allowed al x ≡ true) (a ∷ ps)
-    leads-into a [] ok t = (t, (rw t.0 ok, tt))
+    leads-into : (a : ℕ) (ps : List ℕ) → is_allowed al b ≡ true → Leads (restricted al p) a b ps → Leads p a b ps × All (Ok al) (a ∷ ps)
+    leads-into a [] ok t = (t, All-cons (Ok al) a [] (rw t.0 ok) (All-nil (Ok al)))
     leads-into a (x ∷ ps) ok t =
         let (l, j, u) = t in
         let (ra, rx, q) = step_into a x j in
         let (v, all) = leads-into x ps ok u in
-        ((l, q, v), (ra, all))
+        ((l, q, v), All-cons (Ok al) a (x ∷ ps) ra all)
 
-    leads-back : (a : ℕ) (ps : List ℕ) → Leads p a b ps → AllByRecursion (λ x. is_allowed al x ≡ true) (a ∷ ps) → Leads (restricted al p) a b ps
+    leads-back : (a : ℕ) (ps : List ℕ) → Leads p a b ps → All (Ok al) (a ∷ ps) → Leads (restricted al p) a b ps
     leads-back a [] t r = t
     leads-back a (x ∷ ps) t r =
         let (l, j, u) = t in
-        (l, rw (inside-between al p.ducts a x, r.0, r.1.0) j, leads-back x ps u r.1)
+        let rest = All-tail (Ok al) a (x ∷ ps) r in
+        (l, rw (inside-between al p.ducts a x, All-head (Ok al) a (x ∷ ps) r, All-head (Ok al) x ps rest) j, leads-back x ps u rest)
 
     cost-same : (m : Meaning) (a : ℕ) (ps : List ℕ) → Leads (restricted al p) a b ps → cost_from m (restricted al p) a ps ≡ cost_from m p a ps
     cost-same m a [] t = refl
@@ -104,17 +107,17 @@ module _ (al : List Bool) (p : PlanSpec) (a b : ℕ) where
   through_costs m (x ∷ ps) w = cost-same al p b m x ps w.1
 
   -- a way through allowed pits ends at one
-  end_allowed : (x : ℕ) (ps : List ℕ) → Leads p x b ps → AllByRecursion (λ y. is_allowed al y ≡ true) (x ∷ ps) → is_allowed al b ≡ true
-  end_allowed x [] t r = rw t.0 at r.0
-  end_allowed x (y ∷ ps) t r = end_allowed y ps t.2 r.1
+  end_allowed : (x : ℕ) (ps : List ℕ) → Leads p x b ps → All (Ok al) (x ∷ ps) → is_allowed al b ≡ true
+  end_allowed x [] t r = rw t.0 at (All-head (Ok al) x [] r)
+  end_allowed x (y ∷ ps) t r = end_allowed y ps t.2 (All-tail (Ok al) x (y ∷ ps) r)
 
   pub through_end : (ps : List ℕ) → WayThrough al p a b ps → is_allowed al b ≡ true
   through_end [] w = absurd w.0
   through_end (x ∷ ps) w = end_allowed x ps w.0.1 w.1
 
   -- where every pit is allowed, every way is one through allowed pits
-  leads_allowed : AllAllowed al p → (x : ℕ) (ps : List ℕ) → Leads p x b ps → AllByRecursion (λ y. is_allowed al y ≡ true) (x ∷ ps)
-  leads_allowed every x ps t = All-weaker (λ y. y < p.pits) (λ y. is_allowed al y ≡ true) every (x ∷ ps) (leads_below p b x ps t)
+  leads_allowed : AllAllowed al p → (x : ℕ) (ps : List ℕ) → Leads p x b ps → All (Ok al) (x ∷ ps)
+  leads_allowed every x ps t = All-weaker (λ y. y < p.pits) (Ok al) every (x ∷ ps) (All-from_recursion (λ y. y < p.pits) (x ∷ ps) (leads_below p b x ps t))
 
   pub every-through : AllAllowed al p → (ps : List ℕ) → Way p a b ps → WayThrough al p a b ps
   every-through every [] w = absurd w

@@ -9,12 +9,14 @@ use Rattle.plan.specs.Rules.{Rules}
 use Rattle.plan.proofs.Ruling.{rules-keep}
 use Rattle.search.specs.declared.indexed.IndexedPlan.{IndexedPlan}
 use Rattle.search.specs.declared.marks.Mark.{Mark}
+use Rattle.search.specs.declared.marks.Mark.TheVariants.{Open}
+use Rattle.search.specs.declared.marks.Route.{Route}
+use Rattle.search.specs.declared.marks.SeenPit.{SeenPit}
 use Rattle.search.specs.Allowed.{is_allowed, restricted}
 use Rattle.search.specs.Frontier.{BestOpenPit, BestOpen}
 use Rattle.search.specs.Index.{duct_at, links_at, head_at, LinksTo, before}
-use Rattle.search.specs.Marks.{at}
 use Rattle.search.specs.Searched.{plan_in, Filled}
-use Rattle.search.specs.Steps.{Within, goal_mark, none_seen, relax, relax_down, turned}
+use Rattle.search.specs.Steps.{Within, goal_route, none_seen, relax, relax_down, turned}
 use Rattle.search.proofs.Chains.{starts_of, chained_of, within_plan, ahead, Walk, walk_starts, walk_at, walk-falls, walk_more, walk_ends}
 use Rattle.search.proofs.Ends.{begins, searched, linked, brief}
 use Rattle.search.proofs.Inside.{inside-keep}
@@ -24,33 +26,33 @@ use Rattle.search.proofs.Through.{searched-through, searched-off, unseen-cost, u
 use Rattle.search.proofs.Turned.{turn_room, turn_below, turn}
 
 -- the ducts of one pit
-module _ (m : Meaning) (x : IndexedPlan) (al : List Bool) (u : ℕ) (here : Mark) (ds : List Duct) (is : ds ≡ (plan_in x).ducts) where
+module _ (m : Meaning) (x : IndexedPlan) (al : List Bool) (k : SeenPit) (ds : List Duct) (is : ds ≡ (plan_in x).ducts) where
   -- the walk from the marks `old` is at the place o with the marks ms
   abbrev pub Walks : List Mark → Option ℕ → List Mark → Type 0
-  Walks old o ms = Walk m al u here.cost here.hops ds old o ms
+  Walks old o ms = Walk m al k ds old o ms
 
-  pub ducts-start : (ms : List Mark) → u < (plan_in x).pits → Walks ms (head_at x.heads u) ms
+  pub ducts-start : (ms : List Mark) → k.pit < (plan_in x).pits → Walks ms (head_at x.index.heads k.pit) ms
   ducts-start ms l =
       let small = x.rules.few_pits in
-      let wide = x.wide in
-      walk_starts m al u here.cost here.hops ds x.heads ms (starts_of ds x.plan.ducts (length x.plan.ducts) x.heads is refl x.starts) (omega arith)
+      let wide = x.index.wide in
+      walk_starts m al k ds x.index.heads ms (starts_of ds x.plan.ducts (length x.plan.ducts) x.index.heads is refl x.starts) (omega arith)
 
   module _ (old ms : List Mark) (o : Option ℕ) (j : ℕ) (at_j : o ≡ Some j) (w : Walks old o ms) where
-    links : LinksTo ds (length ds) x.links
-    links = chained_of ds x.plan.ducts (length x.plan.ducts) x.links is refl x.chained
+    links : LinksTo ds (length ds) x.index.links
+    links = chained_of ds x.plan.ducts (length x.plan.ducts) x.index.links is refl x.chained
 
     pub ducts-within : (n : ℕ) → n ≡ (plan_in x).pits → Within n (duct_at ds j)
-    ducts-within n e = within_plan (plan_in x) x.rules ds is j n (walk_at m al u here.cost here.hops ds x.links links old ms o j at_j w).0 e
+    ducts-within n e = within_plan (plan_in x) x.rules ds is j n (walk_at m al k ds x.index.links links old ms o j at_j w).0 e
 
-    module _ (o' : Option ℕ) (q : o' ≡ before (duct_at ds j) u (links_at x.links j)) where
+    module _ (o' : Option ℕ) (q : o' ≡ before (duct_at ds j) k.pit (links_at x.index.links j)) where
       pub ducts-fall : ahead o' < ahead o
-      ducts-fall = walk-falls m al u here.cost here.hops ds x.links links old ms o j at_j w o' q
+      ducts-fall = walk-falls m al k ds x.index.links links old ms o j at_j w o' q
 
-      pub ducts-more : (ns : List Mark) → ns ≡ relax m al u here.cost here.hops (duct_at ds j) ms → Walks old o' ns
-      ducts-more ns e = walk_more m al u here.cost here.hops ds x.links links old ms o j at_j w o' q ns e
+      pub ducts-more : (ns : List Mark) → ns ≡ relax m al k (duct_at ds j) ms → Walks old o' ns
+      ducts-more ns e = walk_more m al k ds x.index.links links old ms o j at_j w o' q ns e
 
-  pub ducts-end : (old ms : List Mark) (o : Option ℕ) → o ≡ None → Walks old o ms → ms ≡ relax_down m al u here.cost here.hops (plan_in x).ducts (length (plan_in x).ducts) old
-  ducts-end old ms o e w = walk_ends m al u here.cost here.hops ds old ms o e w ∙ ap (λ (es : List Duct). relax_down m al u here.cost here.hops es (length es) old) is
+  pub ducts-end : (old ms : List Mark) (o : Option ℕ) → o ≡ None → Walks old o ms → ms ≡ relax_down m al k (plan_in x).ducts (length (plan_in x).ducts) old
+  ducts-end old ms o e w = walk_ends m al k ds old ms o e w ∙ ap (λ (es : List Duct). relax_down m al k es (length es) old) is
 
 -- the turns of a search
 module _ (means : Meaning) (keeps : Laws (read means)) (al : List Bool) (p : PlanSpec) (rules : Rules p) (goal : ℕ) where
@@ -58,22 +60,22 @@ module _ (means : Meaning) (keeps : Laws (read means)) (al : List Bool) (p : Pla
   abbrev pub Turning : List Mark → Type 0
   Turning ms = Inv (read means) (restricted al p) goal ms
 
-  pub run_starts : (n : ℕ) (clear : List Mark) (first : Mark) → clear ≡ none_seen n → n ≡ p.pits → first ≡ goal_mark (read means) goal → goal < n → Turning (set clear goal first)
-  run_starts n clear first e f s l = rw (e, f, s) (begins (read means) (lawful means keeps) (restricted al p) goal (omega arith))
+  pub run_starts : (n : ℕ) (clear : List Mark) (first : Route) (begun : List Mark) → clear ≡ none_seen n → n ≡ p.pits → first ≡ goal_route (read means) goal → goal < n → begun ≡ set clear goal (Open first) → Turning begun
+  run_starts n clear first begun e f s l b = rw (b, e, f, s) (begins (read means) (lawful means keeps) (restricted al p) goal (omega arith))
 
-  module _ (ms : List Mark) (inv : Turning ms) (o : Option ℕ) (best : BestOpen (read means) ms 0 (length ms) o) where
-    module _ (u : ℕ) (is : o ≡ Some u) where
-      pick : BestOpenPit (read means) ms 0 (length ms) u
-      pick = picked (read means) ms 0 (length ms) u o is best
+  module _ (ms : List Mark) (inv : Turning ms) (o : Option SeenPit) (best : BestOpen (read means) ms 0 (length ms) o) where
+    module _ (k : SeenPit) (is : o ≡ Some k) where
+      pick : BestOpenPit (read means) ms 0 (length ms) k
+      pick = picked (read means) ms 0 (length ms) k o is best
 
-      pub run-below : u < length ms
-      run-below = turn_below (read means) (lawful means keeps) al p (rules-keep p rules) goal ms inv u pick
+      pub run-below : k.pit < length ms
+      run-below = turn_below (read means) (lawful means keeps) al p (rules-keep p rules) goal ms inv k pick
 
-      pub run_room : (at ms u).hops < 512
-      run_room = (let r = turn_room (read means) (lawful means keeps) al p (rules-keep p rules) goal ms inv u pick in let small = rules.few_pits in omega arith)
+      pub run_room : k.route.hops < 512
+      run_room = (let r = turn_room (read means) (lawful means keeps) al p (rules-keep p rules) goal ms inv k pick in let small = rules.few_pits in omega arith)
 
-      pub run-turn : (end : List Mark) → end ≡ turned (read means) al p.ducts u ms → Turning end × (left end < left ms)
-      run-turn end e = rw e (turn (read means) (lawful means keeps) al p (rules-keep p rules) goal ms inv u pick)
+      pub run-turn : (end : List Mark) → end ≡ turned (read means) al p.ducts k ms → Turning end × (left end < left ms)
+      run-turn end e = rw e (turn (read means) (lawful means keeps) al p (rules-keep p rules) goal ms inv k pick)
 
     pub run_ends : o ≡ None → is_allowed al goal ≡ true → Filled (read means) al p goal ms
     run_ends none ok =

@@ -10,8 +10,9 @@ use Rattle.ways.specs.Rows.{best_cost}
 use Rattle.ways.specs.Ways.{Way}
 use Rattle.ways.proofs.Bests.{row_is_best, one_best}
 use Rattle.search.specs.declared.marks.Mark.{Mark}
+use Rattle.search.specs.declared.marks.Mark.TheVariants.{Unseen}
 use Rattle.search.specs.Allowed.{is_allowed, restricted, WayThrough, AllAllowed}
-use Rattle.search.specs.Marks.{unseen, at, cost_at, route, Linked, Brief}
+use Rattle.search.specs.Marks.{at, cost_at, route, Linked, Brief}
 use Rattle.search.specs.Searched.{SearchedWhole, Searched}
 use Rattle.search.specs.Steps.{none_seen}
 use Rattle.search.proofs.Ends.{at_none, length_none}
@@ -83,7 +84,7 @@ module _ (m : Meaning) (laws : Lawful m) (al : List Bool) (p : PlanSpec) (b : �
 
 -- no pit is seen
 module _ (n : ℕ) (ms : List Mark) (is : ms ≡ none_seen n) where
-  at-unseen : (v : ℕ) → at ms v ≡ unseen
+  at-unseen : (v : ℕ) → at ms v ≡ Unseen
   at-unseen v = rw is (at_none n v)
 
   pub unseen-cost : (v : ℕ) → cost_at ms v ≡ None

@@ -1,6 +1,6 @@
 -- A plan of which only some pits may be used.
 use Rattle.std.specs.Prelude.{◌≡◌, ℕ, ◌<◌, Bool, true, false, cond, ◌&&◌, List, None, filter, Option, slice_index_or}
-use Rattle.std.specs.List.{AllByRecursion}
+use Rattle.std.specs.List.{All}
 use Rattle.measure.specs.Meaning.{Meaning}
 use Rattle.plan.specs.declared.ducts.Duct.{Duct}
 use Rattle.plan.specs.Plans.{PlanSpec}
@@ -25,7 +25,7 @@ restricted al p = record { pits = p.pits; ducts = inside al p.ducts }
 
 -- a way from a to b through allowed pits alone
 abbrev pub WayThrough : List Bool → PlanSpec → ℕ → ℕ → List ℕ → Type 0
-WayThrough al p a b ps = Way p a b ps × AllByRecursion (λ x. is_allowed al x ≡ true) ps
+WayThrough al p a b ps = Way p a b ps × All (λ x. is_allowed al x ≡ true) ps
 
 -- the best cost through allowed pits, computed: to an allowed pit it is that of the plan with the ducts between allowed pits alone
 abbrev pub best_through : Meaning → List Bool → PlanSpec → ℕ → ℕ → Option ℕ

@@ -20,13 +20,17 @@ last_at ds u (suc i) = cond (touches (duct_at ds i) u) (Some i) (last_at ds u i)
 abbrev pub links_of : List Duct → ℕ → Links
 links_of ds j = record { first = last_at ds (duct_at ds j).first j; second = last_at ds (duct_at ds j).second j }
 
+-- what stands in a place that is not used
+abbrev pub no_links : Links
+no_links = record { first = None; second = None }
+
 -- the last duct at the pit u, by the index
 abbrev pub head_at : List (Option ℕ) → ℕ → Option ℕ
 head_at hs u = slice_index_or hs u None
 
 -- the ducts before the one at j, by the index
 abbrev pub links_at : List Links → ℕ → Links
-links_at ls j = slice_index_or ls j (record { first = None; second = None })
+links_at ls j = slice_index_or ls j no_links
 
 -- the heads are those of the first i ducts
 abbrev pub HeadsTo : List Duct → ℕ → List (Option ℕ) → Type 0

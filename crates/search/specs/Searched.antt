@@ -64,7 +64,7 @@ abbrev pub way_in : List Mark → ℕ → ℕ → Result ℕ Told
 way_in ms v places =
     and_then (asks (nat_lt v (length ms)) (plain 11))
     (and_then (asks (nat_le (length ms) places) (plain 12))
-    (and_then (asks (is_settled (at ms v).state) (plain 13))
+    (and_then (asks (is_settled (at ms v)) (plain 13))
     (Ok (length (route ms v)))))
 
 -- the list after a way was written at its front; a refusal writes nothing

@@ -1,22 +1,37 @@
+// A plan with an index of its ducts.
 ghost use Rattle.std.specs.Prelude.{◌≡◌, length};
 ghost use Rattle.plan.specs.Rules.{Rules};
 ghost use Rattle.search.specs.Index.{HeadsTo, LinksTo};
 
-use crate::links::Links;
-use crate::marks::PLACES;
-use plan::limits::MAX_DUCTS;
+use crate::index::Index;
 use plan::plans::Plan;
 
-// A plan with an index of each pit's ducts: at a pit the place of its last duct, and at a duct the places of those before
-// it at its two ends. So a search goes through the ducts of one pit alone.
+// By the index a search goes through the ducts of one pit alone.
 #[derive(Clone, Copy)]
 pub struct IndexedPlan {
     pub plan: Plan,
-    pub(crate) heads: [Option<u16>; PLACES],
-    pub(crate) links: [Links; MAX_DUCTS],
+    pub(crate) index: Index,
     ghost rules: { Rules plan },
-    ghost wide: { length heads ≡ 512 },
-    ghost long: { length links ≡ 1024 },
-    ghost starts: { HeadsTo plan.ducts (length plan.ducts) heads },
-    ghost chained: { LinksTo plan.ducts (length plan.ducts) links },
+    ghost starts: { HeadsTo plan.ducts (length plan.ducts) index.heads },
+    ghost chained: { LinksTo plan.ducts (length plan.ducts) index.links },
+}
+
+impl IndexedPlan {
+    // The plan with its index.
+    pub fn new(plan: &Plan) -> IndexedPlan
+        ensures { result.plan ≡ plan.now }
+    {
+        index(plan)
+    }
+}
+
+// The index, made duct by duct.
+fn index(plan: &Plan) -> IndexedPlan
+    ensures { result.plan ≡ plan.now }
+{
+    let mut index = Index::new();
+    for (i, duct) in plan.ducts().iter().enumerate() {
+        index.put(i as u16, *duct);
+    }
+    IndexedPlan { plan: *plan, index }
 }

@@ -4,14 +4,12 @@
 #![tactic(auto)]
 
 mod allowed;
-pub mod answers;
 mod frontier;
+mod index;
 pub mod indexed;
-pub mod indexing;
 pub mod links;
 pub mod marks;
-mod reading;
-mod relaxing;
+mod running;
 pub mod searching;
 pub mod table;
 mod turns;

@@ -4,13 +4,13 @@ ghost use Rattle.measure.specs.Meaning.{read};
 ghost use Rattle.plan.specs.Refusals.{heard};
 ghost use Rattle.ways.specs.Theorems.{BestCosts};
 ghost use Rattle.search.specs.Searched.{plan_in, marks_of, Searched, Filled, check_goal};
-ghost use Rattle.search.specs.Steps.{none_seen, goal_mark};
+ghost use Rattle.search.specs.Steps.{goal_route};
 
-use crate::frontier::Frontier;
+use crate::allowed::AllowedPlan;
 use crate::indexed::IndexedPlan;
-use crate::marks::{Mark, State};
+use crate::marks::{Mark, Route};
+use crate::running::Running;
 use crate::table::Table;
-use crate::{allowed, turns};
 use measure::Measure;
 use plan::refusals::Refusal;
 
@@ -29,65 +29,48 @@ pub fn search<M: Measure>(
     ensures later { drop (plan_in indexed.now).pits table.new.marks ≡ drop (plan_in indexed.now).pits table.old.marks }
     ensures theorems { BestCosts (read M.Measure.means) }
 {
-    best_costs::<M>();
     if goal >= indexed.plan.pit_count() {
         return Err(Refusal::OffPlan);
     }
-    run::<M>(indexed, allowed, goal, table);
+    run::<M>(&AllowedPlan { indexed, allowed }, goal, table);
     Ok(())
 }
 
-// Says what holds of best costs. Nothing is computed.
-fn best_costs<M: Measure>()
-    ensures { BestCosts (read M.Measure.means) }
-{}
-
 // The search for a goal that is on the plan, in the places of the table that the plan needs.
-fn run<M: Measure>(indexed: &IndexedPlan, allowed: &[bool], goal: u16, table: &mut Table)
-    requires { goal < (plan_in indexed.now).pits }
-    ensures searched { Searched (read M.Measure.means) allowed.now (plan_in indexed.now) goal (marks_of table.new) }
-    ensures later { drop (plan_in indexed.now).pits table.new.marks ≡ drop (plan_in indexed.now).pits table.old.marks }
+fn run<M: Measure>(plan: &AllowedPlan, goal: u16, table: &mut Table)
+    requires { goal < (plan_in plan.now.indexed.now).pits }
+    ensures searched { Searched (read M.Measure.means) plan.now.allowed.now (plan_in plan.now.indexed.now) goal (marks_of table.new) }
+    ensures later { drop (plan_in plan.now.indexed.now).pits table.new.marks ≡ drop (plan_in plan.now.indexed.now).pits table.old.marks }
 {
-    let pits = indexed.plan.pit_count();
+    let pits = plan.indexed.plan.pit_count();
     table.pits = pits;
-    fill::<M>(indexed, allowed, goal, &mut table.marks[0..pits as usize]);
+    // of a field that is lent, the range has to name its start, as the proof stands today
+    fill::<M>(plan, goal, &mut table.marks[0..pits as usize]);
 }
 
 // Fills the marks, one for each pit: the goal is opened, and then the best open pit has its turn until none is open.
-fn fill<M: Measure>(indexed: &IndexedPlan, allowed: &[bool], goal: u16, marks: &mut [Mark])
-    requires size { length marks.old ≡ (plan_in indexed.now).pits }
+fn fill<M: Measure>(plan: &AllowedPlan, goal: u16, marks: &mut [Mark])
+    requires size { length marks.old ≡ (plan_in plan.now.indexed.now).pits }
     requires below { goal < length marks.old }
-    ensures { Filled (read M.Measure.means) allowed.now (plan_in indexed.now) goal marks.new }
+    ensures { Filled (read M.Measure.means) plan.now.allowed.now (plan_in plan.now.indexed.now) goal marks.new }
 {
-    clear(marks);
-    if !allowed::is_allowed(allowed, goal) {
+    let mut running = Running::<M>::new(marks);
+    if !plan.is_allowed(goal) {
         return;
     }
-    let mut frontier = Frontier::new();
-    marks[goal as usize] = goal_mark::<M>(goal);
-    frontier.update::<M>(marks, goal);
-    while let Some(pit) = frontier.best::<M>(marks) {
-        turns::turn::<M>(indexed, allowed, pit, marks, &mut frontier);
+    running.put(goal, Mark::Open(goal_route::<M>(goal)));
+    while let Some(from) = running.best() {
+        running.turn(plan, from);
     }
 }
 
-// The mark of the goal: a way that stands still leads from it to itself.
-fn goal_mark<M: Measure>(goal: u16) -> Mark
-    ensures { result ≡ goal_mark (read M.Measure.means) goal }
+// The way of the goal: it stands still.
+fn goal_route<M: Measure>(goal: u16) -> Route
+    ensures { result ≡ goal_route (read M.Measure.means) goal }
 {
-    Mark {
-        state: State::Open,
+    Route {
         cost: M::STILL,
         next: goal,
         hops: 0,
-    }
-}
-
-// Makes every pit unseen.
-fn clear(marks: &mut [Mark])
-    ensures { marks.new ≡ none_seen (length marks.old) }
-{
-    for mark in marks.iter_mut() {
-        *mark = Mark::UNSEEN;
     }
 }

@@ -1,84 +1,87 @@
 // One turn of a search: a pit is settled, and its ducts are relaxed.
-ghost use Rattle.std.specs.Prelude.{◌≡◌, ◌<◌, ◌≤◌, length};
+ghost use Rattle.std.specs.Prelude.{◌≡◌, ◌<◌, length};
 ghost use Rattle.measure.specs.Meaning.{read};
-ghost use Rattle.search.specs.Frontier.{Tracks};
-ghost use Rattle.search.specs.Index.{before as before_of};
-ghost use Rattle.search.specs.Marks.{at};
 ghost use Rattle.search.specs.Searched.{plan_in};
-ghost use Rattle.search.specs.Steps.{relax_down, settled, turned};
+ghost use Rattle.search.specs.Steps.{Within, route_by, far_end, relax, relax_down, turned};
 
-use crate::frontier::Frontier;
-use crate::indexed::IndexedPlan;
-use crate::links::Links;
-use crate::marks::{Mark, State};
-use crate::relaxing;
+use crate::allowed::AllowedPlan;
+use crate::marks::{Mark, Route, SeenPit};
+use crate::running::Running;
 use measure::Measure;
 use plan::ducts::Duct;
+use ways::duct_cost;
 
-// The turn of an open pit.
-pub(crate) fn turn<M: Measure>(
-    indexed: &IndexedPlan,
-    allowed: &[bool],
-    pit: u16,
-    marks: &mut [Mark],
-    frontier: &mut Frontier,
-)
-    requires size { length marks.old ≡ (plan_in indexed.now).pits }
-    requires below { pit < length marks.old }
-    requires room { (at marks.old pit).hops < 512 }
-    requires tracks { Tracks (read M.Measure.means) marks.old frontier.old.held }
-    ensures marks { marks.new ≡ turned (read M.Measure.means) allowed.now (plan_in indexed.now).ducts pit marks.old }
-    ensures tracks { Tracks (read M.Measure.means) marks.new frontier.new.held }
-{
-    let here = marks[pit as usize];
-    settle::<M>(pit, marks, frontier);
-    relax_ducts::<M>(indexed, allowed, pit, here, marks, frontier);
-}
+impl<M: Measure> Running<'_, M> {
+    // The turn of an open pit.
+    #[tactic(auto, unfolding(crate::specs::Steps::turned))]
+    pub(crate) fn turn(&mut self, plan: &AllowedPlan, from: SeenPit)
+        requires size { length self.old.marks.now ≡ (plan_in plan.now.indexed.now).pits }
+        requires below { from.pit < length self.old.marks.now }
+        requires room { from.route.hops < 512 }
+        ensures same_reference { self.new.marks.ghost_name ≡ self.old.marks.ghost_name }
+        ensures marks { self.new.marks.now ≡ turned (read M.Measure.means) plan.now.allowed.now (plan_in plan.now.indexed.now).ducts from self.old.marks.now }
+    {
+        self.put(from.pit, Mark::Settled(from.route));
+        self.relax_ducts(plan, from);
+    }
 
-// Settles a pit, with the cost and the way that it has.
-fn settle<M: Measure>(pit: u16, marks: &mut [Mark], frontier: &mut Frontier)
-    requires few { length marks.old ≤ 512 }
-    requires below { pit < length marks.old }
-    requires tracks { Tracks (read M.Measure.means) marks.old frontier.old.held }
-    ensures marks { marks.new ≡ settled pit marks.old }
-    ensures tracks { Tracks (read M.Measure.means) marks.new frontier.new.held }
-{
-    marks[pit as usize].state = State::Settled;
-    frontier.update::<M>(marks, pit);
-}
+    // Relaxes the ducts of a pit that was settled, from the last to the first, by the index.
+    fn relax_ducts(&mut self, plan: &AllowedPlan, from: SeenPit)
+        requires size { length self.old.marks.now ≡ (plan_in plan.now.indexed.now).pits }
+        requires below { from.pit < length self.old.marks.now }
+        requires room { from.route.hops < 512 }
+        ensures same_reference { self.new.marks.ghost_name ≡ self.old.marks.ghost_name }
+        ensures marks { self.new.marks.now ≡ relax_down (read M.Measure.means) plan.now.allowed.now from (plan_in plan.now.indexed.now).ducts (length (plan_in plan.now.indexed.now).ducts) self.old.marks.now }
+    {
+        let indexed = plan.indexed;
+        let ducts = indexed.plan.ducts();
+        let mut next = indexed.index.heads[from.pit as usize];
+        while let Some(place) = next {
+            let duct = ducts[place as usize];
+            self.relax(plan, duct, from);
+            next = indexed.index.links[place as usize].before(duct, from.pit);
+        }
+    }
 
-// Relaxes the ducts of a pit, from the last to the first, by the index.
-fn relax_ducts<M: Measure>(
-    indexed: &IndexedPlan,
-    allowed: &[bool],
-    pit: u16,
-    here: Mark,
-    marks: &mut [Mark],
-    frontier: &mut Frontier,
-)
-    requires size { length marks.old ≡ (plan_in indexed.now).pits }
-    requires below { pit < length marks.old }
-    requires room { here.hops < 512 }
-    requires tracks { Tracks (read M.Measure.means) marks.old frontier.old.held }
-    ensures marks { marks.new ≡ relax_down (read M.Measure.means) allowed.now pit here.cost here.hops (plan_in indexed.now).ducts (length (plan_in indexed.now).ducts) marks.old }
-    ensures tracks { Tracks (read M.Measure.means) marks.new frontier.new.held }
-{
-    let ducts = indexed.plan.ducts();
-    let mut next = indexed.heads[pit as usize];
-    while let Some(place) = next {
-        let duct = ducts[place as usize];
-        relaxing::relax::<M>(allowed, duct, pit, here, marks, frontier);
-        next = before(duct, pit, indexed.links[place as usize]);
+    // If the duct may be used and has the settled pit as an end, the pit at its far end gets a mark with the way through the
+    // duct, unless it has a mark that is no worse.
+    #[tactic(auto, unfolding(crate::specs::Steps::relax))]
+    fn relax(&mut self, plan: &AllowedPlan, duct: Duct, from: SeenPit)
+        requires within { Within (length self.old.marks.now) duct }
+        requires room { from.route.hops < 512 }
+        ensures same_reference { self.new.marks.ghost_name ≡ self.old.marks.ghost_name }
+        ensures marks { self.new.marks.now ≡ relax (read M.Measure.means) plan.now.allowed.now from duct self.old.marks.now }
+    {
+        if !plan.may_use(duct) {
+            return;
+        }
+        if let Some(other) = far_end(duct, from.pit) {
+            self.offer(other, route_by::<M>(duct, from));
+        }
     }
 }
 
-// The place of the duct before this one at an end of it.
-fn before(duct: Duct, pit: u16, links: Links) -> Option<u16>
-    ensures { result ≡ before_of duct pit links }
+// The way by the duct to a pit that was seen, and on from there.
+fn route_by<M: Measure>(duct: Duct, from: SeenPit) -> Route
+    requires { from.route.hops < 512 }
+    ensures { result ≡ route_by (read M.Measure.means) from duct }
+{
+    Route {
+        cost: M::join(duct_cost::<M>(duct), from.route.cost),
+        next: from.pit,
+        hops: from.route.hops + 1,
+    }
+}
+
+// The other end of a duct, where `pit` is one of its ends.
+fn far_end(duct: Duct, pit: u16) -> Option<u16>
+    ensures { result ≡ far_end duct pit }
 {
     if duct.first == pit {
-        links.first
+        Some(duct.second)
+    } else if duct.second == pit {
+        Some(duct.first)
     } else {
-        links.second
+        None
     }
 }

@@ -1,14 +1,14 @@
-use Rattle.measure.specs.Meaning.{read}
-use Rattle.search.specs.Frontier.{Tracks}
+use Rattle.std.proofs.Common.{◌≡◌}
 use Rattle.search.proofs.Inv.{left}
 use Rattle.search.proofs.Runs.{Turning}
 use Rattle.search.proofs.searching.fill.Given as goal
 
-abbrev pub invariant-loop-pit : goal.invariant-loop-pit
-invariant-loop-pit g l =
-    Turning g.M.Measure.means g.met.M.Measure.keeps l.allowed l.indexed.plan l.indexed.rules l.goal l.marks
-    × Tracks (read g.M.Measure.means) l.marks l.frontier.held
+abbrev pub invariant-loop-from : goal.invariant-loop-from
+invariant-loop-from g l = record {
+  turning : Turning g.M.Measure.means g.met.M.Measure.keeps l.plan.allowed.now l.plan.indexed.now.plan l.plan.indexed.now.rules l.goal l.running.marks.now;
+  same : l.running.marks.ghost_name ≡ l.initial.running.marks.ghost_name;
+}
 
 -- each turn settles one pit
-abbrev pub decreases-loop-pit : goal.decreases-loop-pit
-decreases-loop-pit g l = left l.marks
+abbrev pub decreases-loop-from : goal.decreases-loop-from
+decreases-loop-from g l = left l.running.marks.now

@@ -1,21 +1,17 @@
 use Rattle.std.proofs.Common.{◌*◌, length, arith}
 use Rattle.measure.specs.Meaning.{read}
 use Rattle.measure.proofs.Lawful.{lawful}
-use Rattle.search.proofs.Picks.{none_picked, pick_below, block_more, pick_to}
+use Rattle.search.proofs.Picks.{none_picked, block_more, pick_to}
 use Rattle.search.proofs.frontier.Frontier.best.Goals as goal
 
-pub loop-block-init : goal.loop-block-init
-loop-block-init g c = none_picked (read g.M.Measure.means) c.args.marks.now 0
+pub loop-held-init : goal.loop-held-init
+loop-held-init g c = λ ms t. none_picked (read g.M.Measure.means) ms 0
 
-pub better_of-best-requires : goal.better_of-best-requires
-better_of-best-requires g c = pick_below (read g.M.Measure.means) (lawful g.M.Measure.means g.met.M.Measure.keeps) c.args.marks.now 0 (16 * c.loop-block.block) c.loop-block.best c.loop-block.invariant
-
-pub loop-block-preserved : goal.loop-block-preserved
-loop-block-preserved g c =
-    block_more (read g.M.Measure.means) (lawful g.M.Measure.means g.met.M.Measure.keeps) c.args.marks.now c.args.self.now.held c.loop-block.block c.loop-block.best _ c.requires.tracks c.loop-block-test.true c.loop-block.invariant c.better_of-best.ensures
+pub loop-held-preserved : goal.loop-held-preserved
+loop-held-preserved g c =
+    λ ms t. block_more (read g.M.Measure.means) (lawful g.M.Measure.means g.met.M.Measure.keeps) ms c.args.self.now.held c.loop-held.held-index c.loop-held.best _ t c.loop-held-test.true (c.loop-held.invariant ms t) c.better-best.ensures
 
 pub returns : goal.returns
 returns g c =
-    let few = c.requires.few in
-    let end = c.loop-block-test.false in
-    pick_to (read g.M.Measure.means) (lawful g.M.Measure.means g.met.M.Measure.keeps) c.args.marks.now 0 (16 * c.loop-block.block) (length c.args.marks.now) c.loop-block.best (omega arith) (omega arith) c.loop-block.invariant
+    λ ms few t. (let end = c.loop-held-test.false in
+    pick_to (read g.M.Measure.means) (lawful g.M.Measure.means g.met.M.Measure.keeps) ms 0 (16 * c.loop-held.held-index) (length ms) c.loop-held.best (omega arith) (omega arith) (c.loop-held.invariant ms t))
