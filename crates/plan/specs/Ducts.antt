@@ -1,5 +1,5 @@
 -- What a duct must be, which pits it joins, and what the ducts of a plan keep.
-use Rattle.std.specs.Prelude.{ℕ, Bool, true, not, ◌&&◌, ◌||◌, List, [], ◌∷◌, is_some, filter, Option, ◌==◌, nat_le, nat_lt}
+use Rattle.std.specs.Prelude.{codes, decimal, ◌++◌, ℕ, Bool, true, not, ◌&&◌, ◌||◌, List, [], ◌∷◌, is_some, filter, Option, ◌==◌, nat_le, nat_lt}
 use Rattle.std.specs.List.{find}
 use Rattle.plan.specs.declared.ducts.Duct.{Duct}
 use Rattle.plan.specs.Limits.{longest, narrowest, widest}
@@ -34,3 +34,8 @@ unfoldable pub ducts_keep : ℕ → List Duct → Bool
 unfolding between
 ducts_keep pits [] = true
 ducts_keep pits (d ∷ ds) = duct_keeps pits d && (not (is_some (between ds d.first d.second)) && ducts_keep pits ds)
+
+-- a duct as it is printed
+abbrev pub duct_text : Duct → List ℕ
+duct_text d =
+    decimal d.first ++ codes "-" ++ decimal d.second ++ codes ", " ++ decimal d.length ++ codes " cm, " ++ decimal d.bore ++ codes " mm"

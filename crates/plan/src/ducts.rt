@@ -1,11 +1,12 @@
-ghost use Rattle.std.specs.Prelude.{◌≡◌};
-ghost use Rattle.plan.specs.Ducts.{joins};
+ghost use Rattle.std.specs.Prelude.{◌≡◌, Some};
+ghost use Rattle.plan.specs.Ducts.{joins, duct_text};
 ghost use Rattle.plan.specs.Edits.{check_duct};
 ghost use Rattle.plan.specs.Refusals.{heard};
 
 use crate::checks::check_ends;
 use crate::limits::{MAX_BORE, MAX_LENGTH, MIN_BORE};
 use crate::refusals::Refusal;
+use std::fmt;
 
 // A duct: the pipe between two pits that a cable is drawn through.
 #[derive(Clone, Copy, PartialEq, Eq, Debug)]
@@ -47,5 +48,20 @@ impl Duct {
             return Err(Refusal::Bore { place });
         }
         Ok(())
+    }
+}
+
+// A duct is printed with its ends, its length and its bore.
+impl fmt::Display for Duct {
+    ghost output = { λ duct. Some (duct_text duct) };
+
+    fn fmt<W: fmt::Write>(&self, f: &mut fmt::Formatter<W>) -> fmt::Result {
+        let Duct {
+            first,
+            second,
+            length,
+            bore,
+        } = *self;
+        write!(f, "{first}-{second}, {length} cm, {bore} mm")
     }
 }

@@ -3,31 +3,40 @@
 // the rule are printed, and the program ends with status 1.
 #![tactic(auto)]
 
-use plan::ducts::Duct;
+ghost use Rattle.std.specs.Prelude.{Some};
+ghost use Rattle.plancheck.specs.Lines.{refused_text};
+
 use plan::plans::Plan;
 use plan::refusals::Refusal;
 use planfile::{load, save};
-use std::alloc::{AllocError, Global};
+use std::fmt;
 use std::io;
 use std::io::Read;
 
-// A refusal in words: its number, the duct's place where it is about a duct of the file, and the rule that was broken.
-fn refusal_line(heap: Global, refusal: Refusal) -> Result<String, AllocError> {
-    let number = refusal.number();
-    let rule = refusal.rule();
-    match refusal {
-        Refusal::Ends { place }
-        | Refusal::Length { place }
-        | Refusal::Bore { place }
-        | Refusal::Repeat { place } => format!(in heap; "refused {number} at duct {place}: {rule}"),
-        _ => format!(in heap; "refused {number}: {rule}"),
+// Why a file is refused, as it is printed: the number, the duct's place where it is about a duct of the file, and the rule that
+// was broken.
+#[derive(Drop)]
+struct Refused(Refusal);
+
+impl fmt::Display for Refused {
+    ghost output = { λ refused. Some (refused_text refused.0) };
+
+    fn fmt<W: fmt::Write>(&self, f: &mut fmt::Formatter<W>) -> fmt::Result {
+        let refusal = self.0;
+        let number = refusal.number();
+        match refusal {
+            Refusal::Ends { place }
+            | Refusal::Length { place }
+            | Refusal::Bore { place }
+            | Refusal::Repeat { place } => write!(f, "refused {number} at duct {place}: {refusal}"),
+            _ => write!(f, "refused {number}: {refusal}"),
+        }
     }
 }
 
 // Prints a refusal, and gives the error that ends the program.
 fn refuse(rt: &HostRuntime, refusal: Refusal) -> io::Result<()> {
-    let line = refusal_line(rt.alloc(), refusal)?;
-    println!(rt; "{line}")?;
+    rt.println(Refused(refusal))?;
     Err(io::Error::other("refused"))
 }
 
@@ -39,13 +48,7 @@ fn list_plan(rt: &HostRuntime, plan: &Plan) -> io::Result<()> {
     println!(rt; "pits: {pits}")?;
     println!(rt; "ducts: {count}")?;
     for (i, duct) in plan.ducts().iter().enumerate() {
-        let Duct {
-            first,
-            second,
-            length,
-            bore,
-        } = *duct;
-        println!(rt; "duct {i}: {first}-{second}, {length} cm, {bore} mm")?;
+        println!(rt; "duct {i}: {duct}")?;
     }
     Ok(())
 }
@@ -88,7 +91,7 @@ mod tests {
 
     // The line of a refusal.
     fn told(rt: &(impl Abort + AllocGlobal), refusal: Refusal, line: &str) -> Result<(), Fail> {
-        assert!(rt; refusal_line(rt.alloc(), refusal)?.as_str() == line);
+        assert!(rt; Refused(refusal).to_string(rt.alloc())?.as_str() == line);
         Ok(())
     }
 

@@ -1,4 +1,4 @@
-use Rattle.std.proofs.Common.{length, ap, ◌∙◌, arith}
+use Rattle.std.proofs.Common.{length, ap, arith}
 use Rattle.search.proofs.Chains.{index_blank, index_more, index_ends, in_range}
 use Rattle.search.proofs.indexed.index.Goals as goal
 
