@@ -2,7 +2,8 @@
 ghost use Rattle.std.specs.Prelude.{◌≡◌, ◌+◌, ◌≤◌, length};
 ghost use Rattle.planfile.specs.Words.{over};
 
-// A buffer, and where the next part goes.
+// A buffer, and where the next part goes. The place is kept here, since the contract of `chunks_exact_mut` doesn't say
+// what the slice ends as.
 #[derive(Drop)]
 pub(crate) struct Writer<'a> {
     buffer: &'a mut [u8],
