@@ -9,9 +9,8 @@ ghost use Rattle.plancheck.specs.Lines.{refused_text};
 use plan::plans::Plan;
 use plan::refusals::Refusal;
 use planfile::{load, save};
-use std::fmt;
-use std::io;
 use std::io::Read;
+use std::{fmt, io};
 
 // Why a file is refused, as it is printed: the number, the duct's place where it is about a duct of the file, and the rule that
 // was broken.
