@@ -74,8 +74,8 @@ fn better<M: Measure>(best: Option<SeenPit>, other: Option<SeenPit>) -> Option<S
     ensures { result ≡ better (read M.Measure.means) best other }
 {
     match (best, other) {
-        (None, _) => other,
-        (Some(_), None) => best,
+        (_, None) => best,
+        (None, Some(_)) => other,
         (Some(k), Some(i)) => {
             if M::no_worse(k.route.cost, i.route.cost) {
                 best

@@ -1,11 +1,8 @@
 use Rattle.std.proofs.Common.{◌*◌, length, arith}
 use Rattle.measure.specs.Meaning.{read}
 use Rattle.measure.proofs.Lawful.{lawful}
-use Rattle.search.proofs.Picks.{none_picked, block_more, pick_to}
+use Rattle.search.proofs.Picks.{block_more, pick_to}
 use Rattle.search.proofs.frontier.Frontier.best.Goals as goal
-
-pub loop-held-init : goal.loop-held-init
-loop-held-init g c = λ ms t. none_picked (read g.M.Measure.means) ms 0
 
 pub loop-held-preserved : goal.loop-held-preserved
 loop-held-preserved g c =

@@ -1,7 +1,7 @@
 use Rattle.std.proofs.Common.{length, refl, ap, ◌∙◌, arith}
 use Rattle.measure.specs.Meaning.{read}
 use Rattle.search.proofs.Offers.{relax_length}
-use Rattle.search.proofs.Runs.{ducts-start, ducts-within, ducts-fall, ducts-more, ducts-end}
+use Rattle.search.proofs.Runs.{ducts-start, ducts-fall, ducts-more}
 use Rattle.search.proofs.running.Running.relax_ducts.Goals as goal
 
 pub loop-next-init : goal.loop-next-init
@@ -9,14 +9,6 @@ loop-next-init g c =
     let size = c.requires.size in
     let below = c.requires.below in
     record { walk = ducts-start (read g.M.Measure.means) c.args.plan.now.indexed.now c.args.plan.now.allowed.now c.args.from c.ducts-ducts.result.now c.ducts-ducts.ensures.list c.args.self.now.marks.now (omega arith); same = refl; size = refl }
-
-pub relax-requires : goal.relax-requires
-relax-requires g c =
-    record {
-      within = ducts-within (read g.M.Measure.means) c.args.plan.now.indexed.now c.args.plan.now.allowed.now c.args.from c.ducts-ducts.result.now c.ducts-ducts.ensures.list
-          c.args.self.now.marks.now c.loop-next.self.marks.now c.loop-next.next c.in-Some.place c.in-Some.is c.loop-next.invariant.walk (length c.loop-next.self.marks.now) (c.loop-next.invariant.size ∙ c.requires.size);
-      room = c.requires.room;
-    }
 
 pub loop-next-smaller : goal.loop-next-smaller
 loop-next-smaller g c =
@@ -31,12 +23,4 @@ loop-next-preserved g c =
           c.relax.new.self.marks.now c.relax.ensures.marks;
       same = c.relax.ensures.same_reference ∙ c.loop-next.invariant.same;
       size = ap length c.relax.ensures.marks ∙ relax_length (read g.M.Measure.means) c.args.plan.now.allowed.now c.args.from _ c.loop-next.self.marks.now ∙ c.loop-next.invariant.size;
-    }
-
-pub returns : goal.returns
-returns g c =
-    record {
-      same_reference = c.loop-next.invariant.same;
-      marks = ducts-end (read g.M.Measure.means) c.args.plan.now.indexed.now c.args.plan.now.allowed.now c.args.from c.ducts-ducts.result.now c.ducts-ducts.ensures.list
-          c.args.self.now.marks.now c.loop-next.self.marks.now c.loop-next.next c.in_default.is c.loop-next.invariant.walk;
     }
