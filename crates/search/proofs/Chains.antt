@@ -68,10 +68,6 @@ index_blank ds x e =
       links = λ j b. absurd (omega arith);
     }
 
--- what is indexed is a plan's
-pub index_ends : (ds es : List Duct) (i n : ℕ) (x : Index) → ds ≡ es → i ≡ n → IndexedTo ds i x → IndexedTo es n x
-index_ends ds es i n x e f k = rw (← e, ← f) k
-
 pub in_range : (p : PlanSpec) → Rules p → (ds : List Duct) → ds ≡ p.ducts → (i : ℕ) → i < length ds → (i < 1024) × Within 512 (duct_at ds i)
 in_range p rules ds e i l =
     let few = rules.few_ducts in
@@ -88,14 +84,6 @@ starts_of ds es n hs e f x = rw (e, f) x
 
 pub chained_of : (ds es : List Duct) (n : ℕ) (ls : List Links) → ds ≡ es → length es ≡ n → LinksTo es n ls → LinksTo ds (length ds) ls
 chained_of ds es n ls e f x = rw (e, f) x
-
-pub within_plan : (p : PlanSpec) → Rules p → (ds : List Duct) → ds ≡ p.ducts → (i n : ℕ) → i < length ds → n ≡ p.pits → Within n (duct_at ds i)
-within_plan p rules ds e i n l f =
-    let long = ap length e in
-    let d = rules.each i (record { first = 0; second = 0; length = 0; bore = 0 }) (omega arith) in
-    let on = d.on_plan in
-    let rising = d.rising in
-    rw (e, f) (omega arith, on)
 
 -- a place of the walk: a duct of the plan that has u as an end
 abbrev pub Place : List Duct → ℕ → Option ℕ → Type 0
@@ -175,6 +163,3 @@ module _ (m : Meaning) (al : List Bool) (k : SeenPit) (ds : List Duct) where
             place = rw next-is (last_place ds k.pit j (let l = walk_at.0 in omega arith));
             gives = rw (next-is, ← (rest_is j ns), e) (w.gives ∙ ap (λ z. rest z ms) is);
           }
-
-  pub walk_ends : (old ms : List Mark) (o : Option ℕ) → o ≡ None → Walk old o ms → ms ≡ relax_down m al k ds (length ds) old
-  walk_ends old ms o e w = sym (w.gives ∙ ap (λ z. rest z ms) e)

@@ -5,7 +5,6 @@ pub mod Picks
 pub mod Turned
 pub mod Ends
 pub mod Chains
-pub mod Filled
 pub mod Written
 pub mod Through
 pub mod Runs

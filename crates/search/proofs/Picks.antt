@@ -1,18 +1,15 @@
 -- The best open pit: of a block, one pit more; of all blocks, one block more; and where one mark changes.
-use Rattle.std.proofs.Common.{◌≡◌, ℕ, ◌+◌, ◌*◌, ◌/◌, ◌<◌, ◌≤◌, true, false, List, length, set, replicate, Some, None, Option, refl, inl, inr, arith}
-use Rattle.std.proofs.lemmas.List.{get_or-set_same, get_or-set_other, get_or-replicate}
-use Rattle.std.proofs.lemmas.Bool.{both_ways, cases_lt, cases_eq, cond_both, false_from_ne_true}
+use Rattle.std.proofs.Common.{◌≡◌, ℕ, ◌+◌, ◌*◌, ◌<◌, ◌≤◌, true, false, List, length, replicate, Some, None, Option, refl, inl, inr, arith}
+use Rattle.std.proofs.lemmas.List.{get_or-replicate}
+use Rattle.std.proofs.lemmas.Bool.{both_ways, cases_lt, cond_both, false_from_ne_true}
 use Rattle.measure.specs.Meaning.{Meaning, NoWorse}
 use Rattle.measure.proofs.Lawful.{Lawful, other_way, reflexive}
 use Rattle.search.specs.declared.marks.Mark.{Mark}
 use Rattle.search.specs.declared.marks.Mark.TheVariants.{Unseen, Open, Settled}
 use Rattle.search.specs.declared.marks.SeenPit.{SeenPit}
-use Rattle.search.specs.Frontier.{BestOpenPit, BestOpen, as_open, open_at, better, held_of, Tracks, TracksOthers}
+use Rattle.search.specs.Frontier.{BestOpenPit, BestOpen, as_open, open_at, better, held_of, Tracks}
 use Rattle.search.specs.Marks.{at, is_open, route_at}
 use Rattle.search.proofs.Inv.{opens, seen_open, seen_below}
-
-pub none_picked : (m : Meaning) (ms : List Mark) (low : ℕ) → BestOpen m ms low low None
-none_picked m ms low v k l = absurd (omega arith)
 
 open_below : (ms : List Mark) (v : ℕ) → opens ms v ≡ true → v < length ms
 open_below ms v o = seen_below ms v (seen_open (at ms v) o)
@@ -96,9 +93,6 @@ module _ (m : Meaning) (laws : Lawful m) (ms : List Mark) where
         best = λ v s l o. (let c = open_below ms v o in h.best v s (omega arith) o);
       }
 
-  pub pick_all : (low i n : ℕ) (o : Option SeenPit) → i ≡ n → BestOpen m ms low i o → BestOpen m ms low n o
-  pick_all low i n o e h = rw (← e) h
-
 -- the pit that was found, and none
 pub picked : (m : Meaning) (ms : List Mark) (low high : ℕ) (k : SeenPit) (o : Option SeenPit) → o ≡ Some k → BestOpen m ms low high o → BestOpenPit m ms low high k
 picked m ms low high k o e h = rw e at h
@@ -109,11 +103,3 @@ none_open m ms high o e h v l = (rw e at h) v (omega arith) l
 -- no pit is open
 pub tracks_none : (m : Meaning) (ms : List Mark) (ws : List (Option SeenPit)) → ((v : ℕ) → opens ms v ≡ false) → ws ≡ replicate 32 None → Tracks m ms ws
 tracks_none m ms ws f e b l = rw (e, get_or-replicate {A = Option SeenPit} 32 b None None l) (λ v k h. f v)
-
--- the block of x was looked through again
-pub tracks_again : (m : Meaning) (ms : List Mark) (x : ℕ) (ws : List (Option SeenPit)) (r : Option SeenPit) → length ws ≡ 32 → x / 16 < 32 → TracksOthers m ms x ws → BestOpen m ms (16 * (x / 16)) (16 * (x / 16) + 16) r → Tracks m ms (set ws (x / 16) r)
-tracks_again m ms x ws r size l t h b k =
-    elim (cases_eq b (x / 16)) [
-      | inl e ↦ rw (e, get_or-set_same ws (x / 16) r None (omega arith)) h
-      | inr ne ↦ rw (get_or-set_other ws (x / 16) b r None ne) (t b k ne)
-    ]

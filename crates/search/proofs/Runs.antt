@@ -1,5 +1,5 @@
 -- The loops of the search, as the code runs them over a plan and its index.
-use Rattle.std.proofs.Common.{◌≡◌, ℕ, ◌<◌, Bool, true, false, List, length, set, Some, None, Option, refl, ap, ◌∙◌, arith}
+use Rattle.std.proofs.Common.{◌≡◌, ℕ, ◌<◌, Bool, true, false, List, length, set, Some, None, Option, refl, ◌∙◌, arith}
 use Rattle.measure.specs.Laws.{Laws}
 use Rattle.measure.specs.Meaning.{Meaning, read}
 use Rattle.measure.proofs.Lawful.{lawful}
@@ -16,8 +16,8 @@ use Rattle.search.specs.Allowed.{is_allowed, restricted}
 use Rattle.search.specs.Frontier.{BestOpenPit, BestOpen}
 use Rattle.search.specs.Index.{duct_at, links_at, head_at, LinksTo, before}
 use Rattle.search.specs.Searched.{plan_in, Filled}
-use Rattle.search.specs.Steps.{Within, goal_route, none_seen, relax, relax_down, turned}
-use Rattle.search.proofs.Chains.{starts_of, chained_of, within_plan, ahead, Walk, walk_starts, walk_at, walk-falls, walk_more, walk_ends}
+use Rattle.search.specs.Steps.{goal_route, none_seen, relax, turned}
+use Rattle.search.proofs.Chains.{starts_of, chained_of, ahead, Walk, walk_starts, walk-falls, walk_more}
 use Rattle.search.proofs.Ends.{begins, searched, linked, brief}
 use Rattle.search.proofs.Inside.{inside-keep}
 use Rattle.search.proofs.Inv.{Inv, left}
@@ -41,18 +41,12 @@ module _ (m : Meaning) (x : IndexedPlan) (al : List Bool) (k : SeenPit) (ds : Li
     links : LinksTo ds (length ds) x.index.links
     links = chained_of ds x.plan.ducts (length x.plan.ducts) x.index.links is refl x.chained
 
-    pub ducts-within : (n : ℕ) → n ≡ (plan_in x).pits → Within n (duct_at ds j)
-    ducts-within n e = within_plan (plan_in x) x.rules ds is j n (walk_at m al k ds x.index.links links old ms o j at_j w).0 e
-
     module _ (o' : Option ℕ) (q : o' ≡ before (duct_at ds j) k.pit (links_at x.index.links j)) where
       pub ducts-fall : ahead o' < ahead o
       ducts-fall = walk-falls m al k ds x.index.links links old ms o j at_j w o' q
 
       pub ducts-more : (ns : List Mark) → ns ≡ relax m al k (duct_at ds j) ms → Walks old o' ns
       ducts-more ns e = walk_more m al k ds x.index.links links old ms o j at_j w o' q ns e
-
-  pub ducts-end : (old ms : List Mark) (o : Option ℕ) → o ≡ None → Walks old o ms → ms ≡ relax_down m al k (plan_in x).ducts (length (plan_in x).ducts) old
-  ducts-end old ms o e w = walk_ends m al k ds old ms o e w ∙ ap (λ (es : List Duct). relax_down m al k es (length es) old) is
 
 -- the turns of a search
 module _ (means : Meaning) (keeps : Laws (read means)) (al : List Bool) (p : PlanSpec) (rules : Rules p) (goal : ℕ) where

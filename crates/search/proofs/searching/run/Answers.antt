@@ -1,8 +1,12 @@
-use Rattle.std.proofs.Common.{sym, ◌∙◌, subst, arith}
-use Rattle.std.proofs.lemmas.List.{take_at}
+use Rattle.std.proofs.Common.{◌≡◌, ℕ, ◌-◌, ◌≤◌, List, ◌++◌, length, drop, sym, ◌∙◌, subst, arith}
+use Rattle.std.proofs.lemmas.List.{take_at, length-append, length-drop}
 use Rattle.search.specs.Marks.{Linked, Brief}
-use Rattle.search.proofs.Filled.{filled_length}
+use Rattle.search.specs.declared.marks.Mark.{Mark}
 use Rattle.search.proofs.searching.run.Goals as goal
+
+-- marks filled in at the front of a table
+filled_length : (n : ℕ) (ms new : List Mark) → length new ≡ n → n ≤ length ms → length (new ++ drop (n - 0) ms) ≡ length ms
+filled_length n ms new size l = length-append new (drop (n - 0) ms) ∙ simp length-drop (omega arith)
 
 pub invariant_of-table : goal.invariant_of-table
 invariant_of-table g c =
