@@ -31,8 +31,7 @@ fn main(rt: HostRuntime) -> io::Result<()> {
         return Err(io::Error::other("a cost trial is cut short"));
     }
     println!(rt; "plans: {plans} searched")?;
-    let Count { tried, agreed } = total;
-    println!(rt; "costs: {tried} tried, {agreed} agree")?;
+    println!(rt; "costs: {total}")?;
     if total.all_agree() {
         Ok(())
     } else {

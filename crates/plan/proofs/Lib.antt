@@ -4,4 +4,3 @@ pub mod Ruling
 pub mod Finding
 pub mod Editing
 pub mod Lifted
-pub mod Filling

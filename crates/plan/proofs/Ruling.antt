@@ -3,6 +3,9 @@ use Rattle.std.proofs.Common.{◌≡◌, ℕ, zero, suc, ◌<◌, ◌≤◌, tru
 use Rattle.std.proofs.lemmas.Bool.{and_parts, and_from, ltb-true, leb-true, eqb-true, lt-ltb, le-leb, or_parts, or_from, or_cases, both_ways, cases_Bool}
 use Rattle.std.proofs.lemmas.Bool.Decides.{nat_tests}
 use Rattle.plan.specs.declared.ducts.Duct.{Duct}
+use Rattle.std.proofs.lemmas.List.{length-take-le}
+use Rattle.plan.specs.declared.plans.Plan.{Plan}
+use Rattle.plan.specs.Fields.{plan_of}
 use Rattle.plan.specs.Ducts.{joins, between, ends_keep, length_keeps, bore_keeps, duct_keeps, ducts_keep}
 use Rattle.plan.specs.Plans.{PlanSpec}
 use Rattle.plan.specs.Rules.{DuctRules, SamePits, Rules}
@@ -61,6 +64,9 @@ all_apart pits (d ∷ ds) h (suc i) (suc j) z lt le s = all_apart pits ds (keep_
 pub keep-rules : (p : PlanSpec) → p.pits ≤ 512 → length p.ducts ≤ 1024 → ducts_keep p.pits p.ducts ≡ true → Rules p
 keep-rules p small few h =
     record { few_pits = small; few_ducts = few; blank = λ none. no_pits p.pits p.ducts h none; each = each-rules p.pits p.ducts h; apart = all_apart p.pits p.ducts h }
+
+pub length-ducts : (p : Plan) → length (plan_of p).ducts ≡ p.count
+length-ducts p = length-take-le p.count p.ducts (let a = p.few in let b = p.places in omega arith)
 
 rules-own : (pits : ℕ) (d : Duct) → DuctRules pits d → duct_keeps pits d ≡ true
 rules-own pits d r =

@@ -1,5 +1,5 @@
 -- The questions on a file's ducts, one duct on.
-use Rattle.std.proofs.Common.{◌≡◌, ℕ, ◌+◌, ◌<◌, ◌≤◌, true, false, not, ◌&&◌, leb, List, [], ◌∷◌, ◌++◌, length, get_or, take, drop, set, ◌⊎◌, inl, inr, is_some, Ok, Err, Result, sym, refl, ap, subst, ◌∙◌, arith}
+use Rattle.std.proofs.Common.{◌≡◌, ℕ, ◌+◌, ◌<◌, ◌≤◌, true, false, not, ◌&&◌, leb, List, [], ◌∷◌, ◌++◌, length, get_or, take, drop, set, ◌⊎◌, inl, inr, is_some, Ok, Err, Result, sym, refl, ap, ◌∙◌, arith}
 use Rattle.std.proofs.lemmas.List.FromFn.{length-map-range_with_len}
 use Rattle.std.proofs.lemmas.List.{length-take-le, length-set, take_more_set, nil_from_length}
 use Rattle.std.proofs.lemmas.Bool.{and_parts, leb-true, eqb-true}
@@ -10,10 +10,8 @@ use Rattle.plan.specs.Refusals.{Told, plain, placed}
 use Rattle.plan.specs.declared.ducts.Duct.{Duct}
 use Rattle.plan.proofs.Finding.{between-here, between_none}
 use Rattle.plan.proofs.Asking.{asked_yes, both_yes}
-use Rattle.plan.specs.Fields.{places_of, Holds}
 use Rattle.plan.specs.Rules.{Rules}
 use Rattle.plan.proofs.Editing.{laid_sound}
-use Rattle.plan.proofs.Filling.{places-push, fields-hold}
 use Rattle.plan.proofs.Ruling.{keep-rules}
 use Rattle.planfile.specs.Format.{file_size, duct_at, ducts_in}
 use Rattle.planfile.specs.Loading.{check_sizes, sizes_in, admit, as_plan, decode}
@@ -49,15 +47,13 @@ pub record Admitting (bs : List ℕ) (pits count at : ℕ) (ds left : List Duct)
   pub all : at + length left ≡ count
   pub small : pits ≤ 512
   pub places : length ds ≡ 1024
-  -- the places from `at` on hold no duct
-  pub unused : ds ≡ places_of (take at ds)
   pub keeps : ducts_keep pits (take at ds) ≡ true
 
 pub admit-begins :
-    (bs : List ℕ) (s : Sizes) (ds left : List Duct) → Ok s ≡ and_then (check_sizes bs) (Ok (sizes_in bs)) → left ≡ ducts_in bs s.count → ds ≡ places_of []
+    (bs : List ℕ) (s : Sizes) (ds left : List Duct) → Ok s ≡ and_then (check_sizes bs) (Ok (sizes_in bs)) → left ≡ ducts_in bs s.count → length ds ≡ 1024
     → Admitting bs s.pits s.count 0 ds left
 unfolding ducts_keep
-admit-begins bs s ds left ok l none =
+admit-begins bs s ds left ok l long =
     let yes = both_yes (check_sizes bs) (Ok (sizes_in bs)) s (sym ok) in
     let e : s ≡ sizes_in bs = cc in
     let sizes = sized bs yes.0 in
@@ -72,8 +68,7 @@ admit-begins bs s ds left ok l none =
       few = few;
       all = omega arith;
       small = sizes.few_pits;
-      places = ap length none;
-      unused = none;
+      places = long;
       keeps = refl;
     })
 
@@ -84,28 +79,19 @@ module _ {bs : List ℕ} {pits count at : ℕ} {ds left : List Duct} (inv : Admi
   long : length (take at ds) ≡ at
   long = length-take-le at ds room
 
-  -- the plan of the ducts so far
-  abbrev admitted : PlanSpec
-  admitted = record { pits = pits; ducts = take at ds }
+  -- the plan of the ducts so far keeps the rules
+  admitted-rules : Rules (record { pits = pits; ducts = take at ds })
+  admitted-rules = keep-rules _ inv.small (let few = inv.few in let all = inv.all in let l = long in omega arith) inv.keeps
 
-  admitted-rules : Rules admitted
-  admitted-rules = keep-rules admitted inv.small (let few = inv.few in let all = inv.all in let l = long in omega arith) inv.keeps
-
-  admitted-holds : Holds (record { pits = pits; count = at; ducts = ds })
-  admitted-holds =
-      subst (λ n. Holds (record { pits = pits; count = n; ducts = ds })) long
-      (subst (λ xs. Holds (record { pits = pits; count = length (take at ds); ducts = xs })) (sym inv.unused) (fields-hold admitted admitted-rules))
-
-  -- the places or the ducts to come have ended, and so have both: the whole file is read
+  -- the places or the ducts to come have ended, and so have both
   pub admit-ends :
       {A B : Type 0} (end : ℕ) → end ≡ count → A ⊎ B → (A → end ≤ at) → (B → left ≡ [])
-      → (Ok (record { pits = pits; ducts = take count ds }) ≡ decode bs)
-      × Rules (record { pits = pits; ducts = take count ds }) × Holds (record { pits = pits; count = count; ducts = ds })
+      → (Ok (record { pits = pits; ducts = take count ds }) ≡ decode bs) × Rules (record { pits = pits; ducts = take count ds })
   admit-ends end h ended places none =
       let all = inv.all in
       let e : at ≡ count = elim ended [ inl a ↦ let past = places a in omega arith | inr b ↦ let few = ap length (none b) in omega arith ] in
       let nil : left ≡ [] = nil_from_length left (omega arith) in
-      rw (← e) (sym (ap (λ xs. as_plan pits (admit pits (take at ds) xs)) nil) ∙ inv.answer, admitted-rules, admitted-holds)
+      rw (← e) (sym (ap (λ xs. as_plan pits (admit pits (take at ds) xs)) nil) ∙ inv.answer, admitted-rules)
 
   -- d is the next duct
   module _ {d : Duct} {rest : List Duct} (next : left ≡ d ∷ rest) where
@@ -136,7 +122,6 @@ module _ {bs : List ℕ} {pits count at : ℕ} {ds left : List Duct} (inv : Admi
         let places = inv.places in
         let one = ap length next in
         let here : at < length ds = omega arith in
-        let short : length (take at ds) < 1024 = let l = long in omega arith in
         record {
           answer =
               ap (λ xs. as_plan pits (admit pits xs rest)) (take_more_set ds at d here)
@@ -147,11 +132,6 @@ module _ {bs : List ℕ} {pits count at : ℕ} {ds left : List Duct} (inv : Admi
           all = omega arith;
           small = inv.small;
           places = length-set ds at d ∙ places;
-          unused =
-              ap (λ xs. set xs at d) inv.unused
-              ∙ ap (λ n. set (places_of (take at ds)) n d) (sym long)
-              ∙ places-push (take at ds) d short
-              ∙ ap places_of (sym (take_more_set ds at d here));
           keeps = laid_sound pits at at ds d here inv.keeps (sym ok) (ap (λ t. asks (not t) (placed 8 at)) new);
         }
 

@@ -1,13 +1,14 @@
 -- An accepted file is the file of its plan, byte by byte.
-use Rattle.std.proofs.Common.{◌≡◌, ℕ, zero, suc, ◌+◌, ◌*◌, ◌<◌, ◌≤◌, lit<, List, [], ◌∷◌, ◌++◌, length, get_or, take, drop, Ok, Err, Result, sym, refl, ap, ◌∙◌, arith, w8, Fits, IfOk, MatchResult}
+use Rattle.std.proofs.Common.{◌≡◌, ℕ, zero, suc, ◌+◌, ◌*◌, ◌<◌, ◌≤◌, lit<, List, [], ◌∷◌, ◌++◌, length, get_or, take, drop, Ok, Err, Result, sym, refl, ap, ◌∙◌, arith, w8, Fits, MatchResult}
 use Rattle.std.specs.List.{flat_map}
 use Rattle.std.proofs.lemmas.List.FromFn.{length-map-range_with_len}
 use Rattle.std.proofs.lemmas.List.{append_assoc, append-nil, drop-drop, take-append-drop, get_or-drop, length-take-le, length-drop, nil_from_length}
 use Rattle.std.proofs.lemmas.Nat.{le_bytes_2, le_bytes_4}
 use Rattle.plan.specs.Edits.{check_duct, check_repeat}
 use Rattle.plan.specs.Plans.{PlanSpec}
-use Rattle.plan.specs.Rules.{Rules}
-use Rattle.plan.specs.Refusals.{Told, heard}
+use Rattle.plan.specs.Fields.{plan_of, heard_plan}
+use Rattle.plan.specs.Refusals.{Told}
+use Rattle.plan.specs.declared.plans.Plan.{Plan}
 use Rattle.plan.specs.declared.ducts.Duct.{Duct}
 use Rattle.plan.specs.declared.refusals.Refusal.{Refusal}
 use Rattle.plan.proofs.Asking.{not_both, both_yes}
@@ -133,9 +134,9 @@ accepted_is_file bs p fit h =
 
 -- every answer, by the file alone
 pub judged :
-    (bs : List ℕ) → ((i : ℕ) → Fits w8 (get_or bs i 0)) → (r : Result PlanSpec Refusal) → heard r ≡ decode bs → IfOk r Rules → MatchResult r (λ p. FileOf p bs) (λ _. NoFile bs)
-judged bs fit (Ok p) h rules =
-    let f = accepted_is_file bs p (λ i. (fit i).fits) (sym h) in
-    record { some = f.0; rules = rules; bytes = f.1 }
-judged bs fit (Err e) h rules = λ p f.
+    (bs : List ℕ) → ((i : ℕ) → Fits w8 (get_or bs i 0)) → (r : Result Plan Refusal) → heard_plan r ≡ decode bs → MatchResult r (λ p. FileOf (plan_of p) bs) (λ _. NoFile bs)
+judged bs fit (Ok p) h =
+    let f = accepted_is_file bs (plan_of p) (λ i. (fit i).fits) (sym h) in
+    record { some = f.0; rules = p.rules; bytes = f.1 }
+judged bs fit (Err e) h = λ p f.
     not_both (h ∙ ap decode (sym f.bytes) ∙ round_trip p f.some f.rules)

@@ -1,6 +1,6 @@
-ghost use Rattle.std.specs.Prelude.{◌≡◌, IfOk, MatchResult, Ok};
+ghost use Rattle.std.specs.Prelude.{◌≡◌, MatchResult, Ok};
 ghost use Rattle.plan.specs.Edits.{and_then};
-ghost use Rattle.plan.specs.Rules.{Rules};
+ghost use Rattle.plan.specs.Fields.{plan_of, heard_plan};
 ghost use Rattle.plan.specs.Refusals.{heard};
 ghost use Rattle.planfile.specs.Files.{FileOf, NoFile};
 ghost use Rattle.planfile.specs.Loading.{check_sizes, sizes_in, decode, load_on};
@@ -40,8 +40,7 @@ fn check_sizes(bytes: &[u8]) -> Result<Sizes, Refusal>
 
 // The plan of a file, or the first rule that the file breaks: questions 1 to 4, then 5 to 8 on each duct in turn.
 fn parse(bytes: &[u8]) -> Result<Plan, Refusal>
-    ensures answer { heard result ≡ decode bytes.now }
-    ensures rules { IfOk result Rules }
+    ensures { heard_plan result ≡ decode bytes.now }
 {
     let Sizes { pits, count } = check_sizes(bytes)?;
     let mut ducts = [Duct::UNUSED; MAX_DUCTS];
@@ -62,8 +61,8 @@ fn parse(bytes: &[u8]) -> Result<Plan, Refusal>
 // What `parse` gives. An accepted file is the file of the plan that it gives, byte by byte, and a refused one is the file
 // of no plan.
 fn read(bytes: &[u8]) -> Result<Plan, Refusal>
-    ensures answer { heard result ≡ decode bytes.now }
-    ensures exact { MatchResult result (λ p. FileOf p bytes.now) (λ _. NoFile bytes.now) }
+    ensures answer { heard_plan result ≡ decode bytes.now }
+    ensures exact { MatchResult result (λ p. FileOf (plan_of p) bytes.now) (λ _. NoFile bytes.now) }
 {
     parse(bytes)
 }
@@ -71,9 +70,9 @@ fn read(bytes: &[u8]) -> Result<Plan, Refusal>
 // Loads a file: its plan becomes the plan that stands. A file that breaks a rule is refused with the first that it breaks,
 // and the plan that stood stays. An accepted file is the file of its plan, byte by byte; a refused one is the file of no plan.
 pub fn load(plan: &mut Plan, bytes: &[u8]) -> Result<(), Refusal>
-    ensures answer { heard result ≡ (load_on bytes.now plan.old).answer }
-    ensures stands { plan.new ≡ (load_on bytes.now plan.old).plan }
-    ensures exact { MatchResult result (λ _. FileOf plan.new bytes.now) (λ _. NoFile bytes.now) }
+    ensures answer { heard result ≡ (load_on bytes.now (plan_of plan.old)).answer }
+    ensures stands { plan_of plan.new ≡ (load_on bytes.now (plan_of plan.old)).plan }
+    ensures exact { MatchResult result (λ _. FileOf (plan_of plan.new) bytes.now) (λ _. NoFile bytes.now) }
 {
     *plan = read(bytes)?;
     Ok(())

@@ -1,5 +1,6 @@
 ghost use Rattle.std.specs.Prelude.{◌≡◌, ◌+◌, ◌*◌, ◌≤◌, ◌++◌, length, take, drop, IfOk, Ok};
 ghost use Rattle.std.specs.List.{flat_map};
+ghost use Rattle.plan.specs.Fields.{plan_of};
 ghost use Rattle.plan.specs.Refusals.{heard};
 ghost use Rattle.planfile.specs.Format.{file_size, encode, ends_of, sizes_of};
 ghost use Rattle.planfile.specs.Loading.{decode};
@@ -34,10 +35,10 @@ fn put_ducts(ducts: &[Duct], ends: &mut Writer<'_>, sizes: &mut Writer<'_>)
 
 // Writes the file of a plan that has pits at the front of a buffer that has room for it.
 fn put_file(plan: &Plan, buffer: &mut [u8])
-    requires some { 1 ≤ plan.now.pits }
-    requires room { file_size (length plan.now.ducts) ≤ length buffer.old }
-    ensures bytes { buffer.new ≡ encode plan.now ++ drop (file_size (length plan.now.ducts)) buffer.old }
-    ensures back { decode (take (file_size (length plan.now.ducts)) buffer.new) ≡ Ok plan.now }
+    requires some { 1 ≤ (plan_of plan.now).pits }
+    requires room { file_size (length (plan_of plan.now).ducts) ≤ length buffer.old }
+    ensures bytes { buffer.new ≡ encode (plan_of plan.now) ++ drop (file_size (length (plan_of plan.now).ducts)) buffer.old }
+    ensures back { decode (take (file_size (length (plan_of plan.now).ducts)) buffer.new) ≡ Ok (plan_of plan.now) }
 {
     let ducts = plan.ducts();
     let (front, second) = buffer.split_at_mut(4 + 4 * ducts.len());
@@ -51,9 +52,9 @@ fn put_file(plan: &Plan, buffer: &mut [u8])
 // Writes the plan's file at the front of the buffer and gives its size. Later bytes stay, and so does every byte of a
 // buffer that is refused. Reading the file back gives the same plan.
 pub fn save(plan: &Plan, buffer: &mut [u8]) -> Result<usize, Refusal>
-    ensures answer { heard result ≡ save_in plan.now (length buffer.old) }
-    ensures bytes { buffer.new ≡ written (heard result) (encode plan.now) buffer.old }
-    ensures back { IfOk result (λ n. decode (take n buffer.new) ≡ Ok plan.now) }
+    ensures answer { heard result ≡ save_in (plan_of plan.now) (length buffer.old) }
+    ensures bytes { buffer.new ≡ written (heard result) (encode (plan_of plan.now)) buffer.old }
+    ensures back { IfOk result (λ n. decode (take n buffer.new) ≡ Ok (plan_of plan.now)) }
 {
     if plan.pit_count() < 1 {
         return Err(Refusal::BlankPlan);

@@ -25,9 +25,6 @@ at_none zero v = refl
 at_none (suc n) zero = refl
 at_none (suc n) (suc v) = at_none n v
 
-pub length_none : (n : ℕ) → length (none_seen n) ≡ n
-length_none n = length-replicate n Unseen
-
 left_most : (ms : List Mark) → left ms ≤ length ms
 left_most [] = omega arith
 left_most (k ∷ ms) = (let ih = left_most ms in elim (is_settled k) as (λ t. cond t (left ms) (suc (left ms)) ≤ suc (length ms)) [ true ↦ omega arith | false ↦ omega arith ])
@@ -40,13 +37,13 @@ module _ (m : Meaning) (laws : Lawful m) (p : PlanSpec) (b : ℕ) (below : b < p
   begin = set (none_seen p.pits) b first
 
   begin_size : length begin ≡ p.pits
-  begin_size = length-set (none_seen p.pits) b first ∙ length_none p.pits
+  begin_size = length-set (none_seen p.pits) b first ∙ length-replicate p.pits Unseen
 
   begin_read : (v : ℕ) → (at begin v ≡ Unseen) ⊎ ((v ≡ b) × (at begin v ≡ first))
   begin_read v = elim (set-read (none_seen p.pits) b first v) [ inl e ↦ inl (e ∙ at_none p.pits v) | inr e ↦ inr e ]
 
   begin_here : at begin b ≡ first
-  begin_here = get_or-set_same (none_seen p.pits) b first Unseen (rw (length_none p.pits) below)
+  begin_here = get_or-set_same (none_seen p.pits) b first Unseen (rw (length-replicate p.pits Unseen) below)
 
   begin_seen : (v : ℕ) → seen begin v ≡ true → (v ≡ b) × (at begin v ≡ first)
   begin_seen v g = elim (begin_read v) [ inl e ↦ absurd (both_ways false refl (rw e at g)) | inr e ↦ e ]

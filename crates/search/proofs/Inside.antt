@@ -26,13 +26,9 @@ joins-may al d a b j =
       | inr e ↦ (let (f, s) = and_parts (eqb d.first b) (eqb d.second a) e in rw (eqb-true d.first b f, eqb-true d.second a s) (and-swap (is_allowed al b) (is_allowed al a)))
     ]
 
-cond-none : (t : Bool) → ◌≡◌ {A = Option Duct} None (cond t None None)
-cond-none true = refl
-cond-none false = refl
-
 pub inside-between : (al : List Bool) (ds : List Duct) (a b : ℕ) → between (inside al ds) a b ≡ cond (is_allowed al a && is_allowed al b) (between ds a b) None
 unfolding between
-inside-between al [] a b = cond-none (is_allowed al a && is_allowed al b)
+inside-between al [] a b = cond_both {A = Option Duct} (is_allowed al a && is_allowed al b) None None (λ o. None ≡ o) (λ e. refl) (λ e. refl)
 inside-between al (d ∷ ds) a b = go (may_use al d) (joins d a b) refl refl (inside-between al ds a b)
   where
     go : (s t : Bool) → may_use al d ≡ s → joins d a b ≡ t → between (inside al ds) a b ≡ cond (is_allowed al a && is_allowed al b) (between ds a b) None
@@ -42,17 +38,13 @@ inside-between al (d ∷ ds) a b = go (may_use al d) (joins d a b) refl refl (in
     go false true es et ih = (let q : (is_allowed al a && is_allowed al b) ≡ false = sym (joins-may al d a b et) ∙ es in rw q (rw q at ih))
     go false false es et ih = ih
 
-is_some_cond : (t : Bool) (o : Option Duct) → is_some o ≡ false → is_some (cond t o None) ≡ false
-is_some_cond true o h = h
-is_some_cond false o h = refl
-
 -- the ducts between allowed pits keep the rules if all do
 pub inside-keep : (al : List Bool) (n : ℕ) (ds : List Duct) → ducts_keep n ds ≡ true → ducts_keep n (inside al ds) ≡ true
 inside-keep al n [] h = h
 inside-keep al n (d ∷ ds) h =
     let f = keep_front n d ds h in
     let ih = inside-keep al n ds f.rest in
-    let new : is_some (between (inside al ds) d.first d.second) ≡ false = rw (inside-between al ds d.first d.second) (is_some_cond _ _ f.new) in
+    let new : is_some (between (inside al ds) d.first d.second) ≡ false = rw (inside-between al ds d.first d.second) (cond_both (is_allowed al d.first && is_allowed al d.second) (between ds d.first d.second) None (λ o. is_some o ≡ false) (λ e. f.new) (λ e. refl)) in
     cond_both (may_use al d) (d ∷ inside al ds) (inside al ds) (λ es. ducts_keep n es ≡ true)
     (λ e. keep_from n d (inside al ds) (record { own = f.own; new = new; rest = ih })) (λ e. ih)
 

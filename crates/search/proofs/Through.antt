@@ -1,5 +1,6 @@
 -- From the plan with the ducts between allowed pits alone to the ways through allowed pits.
 use Rattle.std.proofs.Common.{◌≡◌, ℕ, ◌<◌, Bool, true, false, List, length, Some, None, Option, sym, refl, ap, ◌∙◌, arith}
+use Rattle.std.proofs.lemmas.List.{length-replicate}
 use Rattle.std.proofs.lemmas.Bool.{both_ways}
 use Rattle.measure.specs.Meaning.{Meaning}
 use Rattle.measure.proofs.Lawful.{Lawful}
@@ -15,7 +16,7 @@ use Rattle.search.specs.Allowed.{is_allowed, restricted, WayThrough, AllAllowed}
 use Rattle.search.specs.Marks.{at, cost_at, route, Linked, Brief}
 use Rattle.search.specs.Searched.{SearchedWhole, Searched}
 use Rattle.search.specs.Steps.{none_seen}
-use Rattle.search.proofs.Ends.{at_none, length_none}
+use Rattle.search.proofs.Ends.{at_none}
 use Rattle.search.proofs.Inv.{opens}
 use Rattle.search.proofs.Inside.{way-through, through_way, through_costs, through_end, every-through}
 
@@ -94,7 +95,7 @@ module _ (n : ℕ) (ms : List Mark) (is : ms ≡ none_seen n) where
   unseen-closed v = rw (at-unseen v) refl
 
   pub unseen-size : length ms ≡ n
-  unseen-size = ap length is ∙ length_none n
+  unseen-size = ap length is ∙ length-replicate n Unseen
 
   pub unseen-linked : Linked ms
   unseen-linked v h = absurd (both_ways false refl (rw (at-unseen v) at h))

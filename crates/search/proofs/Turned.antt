@@ -181,9 +181,6 @@ module _ (m : Meaning) (laws : Lawful m) (al : List Bool) (q : PlanSpec) (keep :
   pub turn_room : k.route.hops < q.pits
   turn_room = (let p = (settle_phase m laws r b ms I k pick).room in omega arith)
 
-  pub turn_below : k.pit < length ms
-  turn_below = pick.below
-
   pub turn : Inv m r b (turned m al q.ducts k ms) × (left (turned m al q.ducts k ms) < left ms)
   unfolding turned
   turn =

@@ -3,6 +3,7 @@ use Rattle.std.specs.Prelude.{◌≡◌, ℕ, Bool, List, ◌++◌, length, take
 use Rattle.measure.specs.Meaning.{Meaning}
 use Rattle.plan.specs.Edits.{Verdict, asks, and_then}
 use Rattle.plan.specs.Plans.{PlanSpec}
+use Rattle.plan.specs.Fields.{plan_of}
 use Rattle.plan.specs.Refusals.{Told, plain}
 use Rattle.ways.specs.Best.{BestOf, Best, Written, WrittenWay}
 use Rattle.ways.specs.Rows.{best_cost}
@@ -14,7 +15,7 @@ use Rattle.search.specs.Marks.{at, is_settled, cost_at, route, Linked, Brief}
 
 -- the plan that is indexed
 abbrev pub plan_in : IndexedPlan → PlanSpec
-plan_in x = x.plan
+plan_in x = plan_of x.plan
 
 -- the marks that a table holds: the first `pits` of its places
 abbrev pub marks_of : Table → List Mark

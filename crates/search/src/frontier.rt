@@ -43,7 +43,7 @@ impl Frontier {
         self.held[block] = best_in::<M>(marks, block);
     }
 
-    // The best open pit: none that is open has a better cost. None where no pit is open.
+    // The best open pit of the marks that the frontier tracks: none that is open has a better cost. None where no pit is open.
     pub(crate) fn best<M: Measure>(&self) -> Option<SeenPit>
         ensures { (ms : List Mark) → length ms ≤ 512 → Tracks (read M.Measure.means) ms self.now.held → BestOpen (read M.Measure.means) ms 0 (length ms) result }
     {
@@ -76,8 +76,8 @@ fn better<M: Measure>(best: Option<SeenPit>, other: Option<SeenPit>) -> Option<S
     match (best, other) {
         (_, None) => best,
         (None, Some(_)) => other,
-        (Some(k), Some(i)) => {
-            if M::no_worse(k.route.cost, i.route.cost) {
+        (Some(one), Some(two)) => {
+            if M::no_worse(one.route.cost, two.route.cost) {
                 best
             } else {
                 other

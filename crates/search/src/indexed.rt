@@ -1,6 +1,6 @@
 // A plan with an index of its ducts.
-ghost use Rattle.std.specs.Prelude.{◌≡◌, length};
-ghost use Rattle.plan.specs.Rules.{Rules};
+ghost use Rattle.std.specs.Prelude.{◌≡◌, take};
+ghost use Rattle.plan.specs.Fields.{plan_of};
 ghost use Rattle.search.specs.Index.{HeadsTo, LinksTo};
 
 use crate::index::Index;
@@ -11,15 +11,14 @@ use plan::plans::Plan;
 pub struct IndexedPlan {
     pub plan: Plan,
     pub(crate) index: Index,
-    ghost rules: { Rules plan },
-    ghost starts: { HeadsTo plan.ducts (length plan.ducts) index.heads },
-    ghost chained: { LinksTo plan.ducts (length plan.ducts) index.links },
+    ghost starts: { HeadsTo (take plan.count plan.ducts) plan.count index.heads },
+    ghost chained: { LinksTo (take plan.count plan.ducts) plan.count index.links },
 }
 
 impl IndexedPlan {
     // The plan with its index.
     pub fn new(plan: &Plan) -> IndexedPlan
-        ensures { result.plan ≡ plan.now }
+        ensures { plan_of result.plan ≡ plan_of plan.now }
     {
         index(plan)
     }
@@ -27,7 +26,7 @@ impl IndexedPlan {
 
 // The index, made duct by duct.
 fn index(plan: &Plan) -> IndexedPlan
-    ensures { result.plan ≡ plan.now }
+    ensures { plan_of result.plan ≡ plan_of plan.now }
 {
     let mut index = Index::new();
     for (i, duct) in plan.ducts().iter().enumerate() {

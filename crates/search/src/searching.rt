@@ -42,9 +42,9 @@ fn run<M: Measure>(plan: &AllowedPlan, goal: u16, table: &mut Table)
     ensures searched { Searched (read M.Measure.means) plan.now.allowed.now (plan_in plan.now.indexed.now) goal (marks_of table.new) }
     ensures later { drop (plan_in plan.now.indexed.now).pits table.new.marks ≡ drop (plan_in plan.now.indexed.now).pits table.old.marks }
 {
-    let pits = plan.indexed.plan.pit_count();
+    let pits = plan.indexed.plan.pits;
     table.pits = pits;
-    // of a field that is lent, the range has to name its start, as the proof stands today
+    // `0..`, since a part of a field that is lent gets no generated proof without it
     fill::<M>(plan, goal, &mut table.marks[0..pits as usize]);
 }
 

@@ -7,7 +7,8 @@ ghost use Rattle.search.specs.Marks.{at, is_settled, route_at, route, Linked, Br
 use crate::marks::{Mark, PLACES, SeenPit};
 use plan::refusals::Refusal;
 
-// A mark for each pit of the plan that was searched. The first `pits` places are the plan's.
+// A mark for each pit of the plan that was searched. The first `pits` places are the plan's; no heap, so there is a place for
+// each pit of the largest plan.
 #[derive(Clone, Copy)]
 pub struct Table {
     pub(crate) pits: u16,

@@ -1,2 +1,3 @@
 pub mod Reading
 pub mod Trials
+pub mod Counts

@@ -1,5 +1,7 @@
-ghost use Rattle.std.specs.Prelude.{◌≡◌, ◌+◌, ◌-◌, ◌^◌, ◌↔◌, IsTrue, min};
+ghost use Rattle.std.specs.Prelude.{◌≡◌, ◌+◌, ◌-◌, ◌^◌, ◌↔◌, IsTrue, Some, min};
+ghost use Rattle.trial_parts.specs.Counts.{count_text};
 
+use std::fmt;
 use std::ops::AddAssign;
 
 // How many comparisons were made, and how many of them agreed.
@@ -25,5 +27,15 @@ impl AddAssign for Count {
     fn add_assign(&mut self, more: Count) {
         self.tried = self.tried.saturating_add(more.tried);
         self.agreed = self.agreed.saturating_add(more.agreed);
+    }
+}
+
+// A count is printed as what was tried, and what agreed.
+impl fmt::Display for Count {
+    ghost output = { λ count. Some (count_text count.tried count.agreed) };
+
+    fn fmt<W: fmt::Write>(&self, f: &mut fmt::Formatter<W>) -> fmt::Result {
+        let Count { tried, agreed } = *self;
+        write!(f, "{tried} tried, {agreed} agree")
     }
 }

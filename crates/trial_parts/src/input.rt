@@ -1,5 +1,6 @@
 ghost use Rattle.std.specs.Prelude.{◌≡◌, ℕ, ◌+◌, ◌↔◌, List, [], take, drop, IsTrue};
-ghost use Rattle.trial_parts.specs.Reading.{number_in, Reads};
+ghost use Rattle.planfile.specs.Words.{four};
+ghost use Rattle.trial_parts.specs.Reading.{Reads};
 
 use std::marker::Model;
 
@@ -48,7 +49,7 @@ impl<'a> TrialInput<'a> {
 
     // The number in the next 4 bytes, the low byte first. Where fewer are left, all of them stay to be read.
     pub fn number(&mut self) -> Option<u32>
-        ensures { Reads 4 self.old self.new result (λ n. n ≡ number_in self.old) }
+        ensures { Reads 4 self.old self.new result (λ n. n ≡ four self.old 0) }
     {
         let (word, rest) = self.rest.split_first_chunk()?;
         self.rest = rest;
@@ -57,7 +58,7 @@ impl<'a> TrialInput<'a> {
 
     // The next plan file: its size as a number, then its bytes. Where it is not whole, all bytes stay to be read.
     pub fn file(&mut self) -> Option<&'a [u8]>
-        ensures { Reads (4 + number_in self.old) self.old self.new result (λ s. s.now ≡ take (number_in self.old) (drop 4 self.old)) }
+        ensures { Reads (4 + four self.old 0) self.old self.new result (λ s. s.now ≡ take (four self.old 0) (drop 4 self.old)) }
     {
         let mut ahead = self.lookahead();
         let size = ahead.number()?;

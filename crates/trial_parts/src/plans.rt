@@ -1,5 +1,5 @@
 ghost use Rattle.std.specs.Prelude.{◌≡◌};
-ghost use Rattle.plan.specs.Refusals.{heard};
+ghost use Rattle.plan.specs.Fields.{heard_plan};
 ghost use Rattle.planfile.specs.Loading.{decode};
 
 use plan::plans::Plan;
@@ -8,7 +8,7 @@ use planfile::load;
 
 // The plan of a file, or the first rule that the file breaks.
 pub fn loaded(bytes: &[u8]) -> Result<Plan, Refusal>
-    ensures { heard result ≡ decode bytes.now }
+    ensures { heard_plan result ≡ decode bytes.now }
 {
     let mut plan = Plan::blank();
     load::load(&mut plan, bytes)?;

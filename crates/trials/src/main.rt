@@ -30,8 +30,7 @@ fn main(rt: HostRuntime) -> io::Result<()> {
         }
         total += count;
     }
-    let Count { tried, agreed } = total;
-    println!(rt; "files: {tried} tried, {agreed} agree")?;
+    println!(rt; "files: {total}")?;
     if trials.is_at_end() && total.all_agree() {
         Ok(())
     } else {

@@ -5,6 +5,7 @@
 
 ghost use Rattle.std.specs.Prelude.{◌≡◌, ◌<◌, ◌∷◌};
 ghost use Rattle.measure.specs.Meaning.{read};
+ghost use Rattle.plan.specs.Fields.{plan_of};
 ghost use Rattle.ways.specs.Pits.{cost_of_pits, CostOfPits};
 ghost use Rattle.ways.specs.Theorems.{BestCosts};
 ghost use Rattle.ways.specs.Ways.{cost_of_duct};
@@ -17,8 +18,8 @@ use plan::plans::Plan;
 // The cost of the way by these pits, the first to the last; None where they are no way of the plan.
 // What is proved of best costs in general stands here too.
 pub fn way_cost<M: Measure>(plan: &Plan, pits: &[u16]) -> Option<u64>
-    ensures answer { result ≡ cost_of_pits (read M.Measure.means) plan.now pits.now }
-    ensures cost { CostOfPits (read M.Measure.means) plan.now pits.now result }
+    ensures answer { result ≡ cost_of_pits (read M.Measure.means) (plan_of plan.now) pits.now }
+    ensures cost { CostOfPits (read M.Measure.means) (plan_of plan.now) pits.now result }
     ensures theorems { BestCosts (read M.Measure.means) }
     ensures worked { Worked }
 {
@@ -41,8 +42,8 @@ fn best_costs<M: Measure>()
 
 // The cost by these pits, of which there may be none, or the first may be off the plan.
 fn cost_by<M: Measure>(plan: &Plan, pits: &[u16]) -> Option<u64>
-    ensures answer { result ≡ cost_of_pits (read M.Measure.means) plan.now pits.now }
-    ensures cost { CostOfPits (read M.Measure.means) plan.now pits.now result }
+    ensures answer { result ≡ cost_of_pits (read M.Measure.means) (plan_of plan.now) pits.now }
+    ensures cost { CostOfPits (read M.Measure.means) (plan_of plan.now) pits.now result }
 {
     let (first, later) = pits.split_first()?;
     if *first >= plan.pit_count() {
@@ -53,8 +54,8 @@ fn cost_by<M: Measure>(plan: &Plan, pits: &[u16]) -> Option<u64>
 
 // The cost from a pit of the plan by the later pits.
 fn cost_from<M: Measure>(plan: &Plan, first: u16, later: &[u16]) -> Option<u64>
-    requires { first < plan.now.pits }
-    ensures { CostOfPits (read M.Measure.means) plan.now (first ∷ later.now) result }
+    requires { first < (plan_of plan.now).pits }
+    ensures { CostOfPits (read M.Measure.means) (plan_of plan.now) (first ∷ later.now) result }
 {
     let mut here = first;
     let mut cost = M::STILL;

@@ -1,4 +1,4 @@
-use Rattle.std.proofs.Common.{sym, refl, ◌∙◌, arith}
+use Rattle.std.proofs.Common.{sym, refl, ◌∙◌, rules, arith}
 use Rattle.plan.proofs.Finding.{between-on}
 use Rattle.planfile.proofs.Admitting.{admit-begins, admit-ends, admit-repeats, admit-more, no_repeat, some-repeat}
 use Rattle.planfile.proofs.load.parse.Goals as goal
@@ -11,7 +11,7 @@ loop-place-init c =
     rw (whole, first, second)
     (record {
       places = refl;
-      answer = admit-begins _ _ _ _ c.in_ok-pits.ensures c.open.ensures refl;
+      answer = admit-begins _ _ _ _ c.in_ok-pits.ensures c.open.ensures (search rules);
     })
 
 pub loop-earlier-preserved : goal.loop-earlier-preserved
@@ -26,16 +26,14 @@ loop-place-preserved c =
       answer = rw (step.0.1.2, ← step.0.1.1) (admit-more now step.1 c.in_ok-check.ensures (no_repeat _ _ _ _ c.loop-earlier-test.false c.loop-earlier.invariant));
     }
 
-pub invariant_of-result : goal.invariant_of-result
-invariant_of-result c = (admit-ends c.loop-place.invariant.answer _ c.loop-place.invariant.places c.in-None.ensures.steps (λ r. omega arith) (λ r. r.1.0)).2
+pub invariant_of-result-clause-rules : goal.invariant_of-result-clause-rules
+invariant_of-result-clause-rules c = (admit-ends c.loop-place.invariant.answer _ c.loop-place.invariant.places c.in-None.ensures.steps (λ r. omega arith) (λ r. r.1.0)).1
 
 pub returns-in-None : goal.returns-in-None
-returns-in-None c =
-    let end = admit-ends c.loop-place.invariant.answer _ c.loop-place.invariant.places c.in-None.ensures.steps (λ r. omega arith) (λ r. r.1.0) in
-    record { answer = end.0; rules = end.1 }
+returns-in-None c = (admit-ends c.loop-place.invariant.answer _ c.loop-place.invariant.places c.in-None.ensures.steps (λ r. omega arith) (λ r. r.1.0)).0
 
-pub returns-then-joins-clause-answer : goal.returns-then-joins-clause-answer
-returns-then-joins-clause-answer c =
+pub returns-then-joins : goal.returns-then-joins
+returns-then-joins c =
     let step = c.in-Some.ensures.steps in
     let now = rw (← step.0.1.1) at c.loop-place.invariant.answer in
     admit-repeats now step.1 c.in_ok-check.ensures (some-repeat _ _ _ _ _ c.loop-earlier-test.true (sym c.if-joins.ensures) c.loop-earlier.invariant)

@@ -1,4 +1,5 @@
 use Rattle.std.proofs.Common.{rules, ◌∙◌}
+use Rattle.plan.specs.Fields.{plan_of}
 use Rattle.planfile.proofs.Arrays.{file_put}
 use Rattle.planfile.proofs.Trip.{save_back}
 use Rattle.planfile.proofs.save.put_file.Goals as goal
@@ -13,8 +14,8 @@ returns-clause-bytes c =
     let count = simp (c.put.ensures.after, start, c.to_le_bytes-2.ensures, list) at c.put-2.ensures.bytes in
     let ends = simp (c.put-2.ensures.after, c.put.ensures.after, start, list) at c.put_ducts.ensures.ends in
     let sizes = simp (c.new-sizes.ensures.front, list) at c.put_ducts.ensures.sizes in
-    let bytes = file_put c.args.plan.now c.args.buffer.now _ _ _ _ _ _ c.requires.room front back pits count ends sizes in
+    let bytes = file_put (plan_of c.args.plan.now) c.args.buffer.now _ _ _ _ _ _ c.requires.room front back pits count ends sizes in
     search rules
 
 pub returns-clause-back : goal.returns-clause-back
-returns-clause-back c = save_back c.args.plan.now c.requires.some c.ducts-ducts.ensures.rules c.args.buffer.now _ (returns-clause-bytes c)
+returns-clause-back c = save_back (plan_of c.args.plan.now) c.requires.some c.ducts-ducts.ensures.rules c.args.buffer.now _ (returns-clause-bytes c)

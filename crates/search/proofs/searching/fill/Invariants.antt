@@ -5,7 +5,7 @@ use Rattle.search.proofs.searching.fill.Given as goal
 
 abbrev pub invariant-loop-from : goal.invariant-loop-from
 invariant-loop-from g l = record {
-  turning : Turning g.M.Measure.means g.met.M.Measure.keeps l.plan.allowed.now l.plan.indexed.now.plan l.plan.indexed.now.rules l.goal l.running.marks.now;
+  turning : Turning g.M.Measure.means g.met.M.Measure.keeps l.plan.allowed.now l.plan.indexed.now.plan l.goal l.running.marks.now;
   same : l.running.marks.ghost_name ≡ l.initial.running.marks.ghost_name;
 }
 

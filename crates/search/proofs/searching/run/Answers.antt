@@ -10,16 +10,14 @@ filled_length n ms new size l = length-append new (drop (n - 0) ms) ∙ simp len
 
 pub invariant_of-table : goal.invariant_of-table
 invariant_of-table g c =
-    let n = c.pit_count-pits.result in
-    let same = c.pit_count-pits.ensures in
-    let small = c.args.plan.now.indexed.now.rules.few_pits in
+    let n = c.args.plan.now.indexed.now.plan.pits in
+    let small = c.args.plan.now.indexed.now.plan.rules.few_pits in
     let old = c.args.table.now.marks in
     let places = c.args.table.now.places in
-    let size = c.fill.ensures.searched.places ∙ sym same in
-    let e = take_at c.fill.new.marks _ n size in
+    let e = take_at c.fill.new.marks _ n c.fill.ensures.searched.places in
     record {
-      few = omega arith;
-      places = filled_length n old c.fill.new.marks size (omega arith) ∙ places;
+      few = small;
+      places = filled_length n old c.fill.new.marks c.fill.ensures.searched.places (omega arith) ∙ places;
       linked = subst Linked (sym e) c.fill.ensures.linked;
       brief = subst Brief (sym e) c.fill.ensures.brief;
     }
