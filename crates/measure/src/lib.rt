@@ -31,7 +31,8 @@ pub trait Measure {
     fn join(a: u64, b: u64) -> u64
         ensures { result ≡ (read means).join a b };
 
-    // Whether the cost `a` is no worse than the cost `b`.
+    // Whether the cost `a` is no worse than the cost `b`. Two measures order the same numbers in two ways, so this is no order of
+    // a type.
     fn no_worse(a: u64, b: u64) -> bool
         ensures { result ≡ (read means).no_worse a b };
 

@@ -38,7 +38,8 @@ fn check_sizes(bytes: &[u8]) -> Result<Sizes, Refusal>
     Ok(Sizes { pits, count })
 }
 
-// The plan of a file, or the first rule that the file breaks: questions 1 to 4, then 5 to 8 on each duct in turn.
+// The plan of a file, or the first rule that the file breaks: questions 1 to 4, then 5 to 8 on each duct in turn. The array is the
+// plan's own, filled in place: a call that lays a checked duct on a plan would ask something of its caller.
 fn parse(bytes: &[u8]) -> Result<Plan, Refusal>
     ensures { heard_plan result ≡ decode bytes.now }
 {

@@ -8,7 +8,8 @@ use crate::marks::PLACES;
 use plan::ducts::Duct;
 use plan::limits::MAX_DUCTS;
 
-// At a pit the place of its last duct, and at a duct the places of those before it at its two ends.
+// At a pit the place of its last duct, and at a duct the places of those before it at its two ends: chains in two arrays, since
+// nothing is allocated.
 #[derive(Clone, Copy)]
 pub(crate) struct Index {
     pub(crate) heads: [Option<u16>; PLACES],

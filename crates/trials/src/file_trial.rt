@@ -59,7 +59,8 @@ fn read_duct(input: &mut TrialInput<'_>) -> Option<Duct>
     })
 }
 
-// Whether an accepted plan has the pits and the ducts that the model read.
+// Whether an accepted plan has the pits and the ducts that the model read. A closure that reads the input on would change what it
+// captures, so the ducts are gone through by a loop.
 fn same_plan(plan: &Plan, input: &mut TrialInput<'_>) -> Option<bool>
     ensures { length input.new ≤ length input.old }
 {

@@ -52,7 +52,7 @@ fn cost_by<M: Measure>(plan: &Plan, pits: &[u16]) -> Option<u64>
     cost_from::<M>(plan, *first, later)
 }
 
-// The cost from a pit of the plan by the later pits.
+// The cost from a pit of the plan by the later pits. A `try_fold` would carry the pit and the cost as a pair.
 fn cost_from<M: Measure>(plan: &Plan, first: u16, later: &[u16]) -> Option<u64>
     requires { first < (plan_of plan.now).pits }
     ensures { CostOfPits (read M.Measure.means) (plan_of plan.now) (first ∷ later.now) result }
