@@ -21,6 +21,7 @@ pub trait Measure {
 
     ghost GREATEST: { ℕ };
 
+    // clauses write `read means`, which shows that a number above the greatest cost is read as the greatest
     ghost means: { Meaning };
 
     // The cost of a duct, from its length and bore alone.

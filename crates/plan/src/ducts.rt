@@ -21,7 +21,7 @@ pub struct Duct {
 }
 
 impl Duct {
-    // What stands in a place of an array that holds no duct.
+    // What stands in a place of an array that holds no duct, which a `default()` would not say.
     pub const UNUSED: Duct = Duct {
         first: 0,
         second: 0,

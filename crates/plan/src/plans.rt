@@ -7,8 +7,8 @@ use crate::limits::MAX_DUCTS;
 
 // A plan: how many pits there are, numbered from 0, and the ducts that join them.
 // The first `count` places of `ducts` are the plan's, in their order; the other places mean nothing.
-// The array has a count beside it since a plan is copied by value; it has no model, as that of a `Copy` type would fix what the
-// other places hold, and so ask it of whoever builds a plan.
+// The array has a count beside it since a plan is copied by value. A plan has no model: that of a `Copy` type would fix what the
+// other places hold, and ask this of whoever builds a plan.
 // Every value of this type keeps the rules of a plan. The blank plan, which stands before the first load, has no pits
 // and no ducts.
 #[derive(Clone, Copy)]

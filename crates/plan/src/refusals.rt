@@ -48,7 +48,7 @@ pub struct Figures {
 }
 
 impl Refusal {
-    // The number of the question that got a no.
+    // The number of the question that got a no. The calls give the refusal itself; the number is for whoever reads it.
     pub fn number(self) -> u8
         ensures { result ≡ (told self).number }
     {

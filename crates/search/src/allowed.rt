@@ -5,7 +5,7 @@ ghost use Rattle.search.specs.Allowed.{is_allowed, may_use};
 use crate::indexed::IndexedPlan;
 use plan::ducts::Duct;
 
-// A plan of which only some pits may be used: the place of a pit in the list says whether it may.
+// A plan of which only some pits may be used: `allowed` has a yes or no at each pit's place.
 #[derive(Clone, Copy)]
 pub(crate) struct AllowedPlan<'a> {
     pub(crate) indexed: &'a IndexedPlan,

@@ -55,7 +55,7 @@ impl Frontier {
     }
 }
 
-// The best open pit of a block. The loop goes over pit numbers: those of the last block may lie past the end of the marks.
+// The best open pit of a block. The loop goes over pit numbers: those of a block may lie past the end of the marks.
 fn best_in<M: Measure>(marks: &[Mark], block: usize) -> Option<SeenPit>
     requires few { length marks.now ≤ 512 }
     requires below { block < 32 }

@@ -11,7 +11,7 @@ pub struct Links {
 }
 
 impl Links {
-    // What stands in a place that is not used.
+    // What stands in a place that is not used, which a `default()` would not say.
     pub const NONE: Links = Links {
         first: None,
         second: None,

@@ -9,7 +9,7 @@ use crate::marks::{Mark, Route, SeenPit};
 use measure::Measure;
 use std::marker::PhantomData;
 
-// The marks that a search was lent, and their frontier.
+// The marks that a search was lent, and their frontier. The plan is no field: each method would have to say that it stays.
 #[derive(Drop)]
 pub(crate) struct Running<'a, M: Measure> {
     pub(crate) marks: &'a mut [Mark],
@@ -47,6 +47,7 @@ impl<'a, M: Measure> Running<'a, M> {
         ensures same_reference { self.new.marks.ghost_name ≡ self.old.marks.ghost_name }
         ensures marks { self.new.marks.now ≡ slice_set self.old.marks.now pit mark }
     {
+        // lent to a variable, so that the frontier is held against the marks once both are written
         let marks = &mut *self.marks;
         marks[pit as usize] = mark;
         self.frontier.update::<M>(marks, pit);

@@ -44,7 +44,7 @@ fn run<M: Measure>(plan: &AllowedPlan, goal: u16, table: &mut Table)
 {
     let pits = plan.indexed.plan.pits;
     table.pits = pits;
-    // `0..`, since a part of a field that is lent gets no generated proof without it
+    // `0..pits` and not `..pits`: for the second the check makes no proof that the later places stay
     fill::<M>(plan, goal, &mut table.marks[0..pits as usize]);
 }
 

@@ -8,7 +8,7 @@ use crate::marks::{Mark, PLACES, SeenPit};
 use plan::refusals::Refusal;
 
 // A mark for each pit of the plan that was searched. The first `pits` places are the plan's; no heap, so there is a place for
-// each pit of the largest plan.
+// each pit of the largest plan. A table has no model, since a clause of `search` speaks of its later places.
 #[derive(Clone, Copy)]
 pub struct Table {
     pub(crate) pits: u16,

@@ -12,7 +12,7 @@ pub trait Trial {
     // Holds of the bytes before a trial, its count, and the bytes that it leaves.
     ghost run_gives: { List ℕ → Option Count → List ℕ → Type 0 } = { λ _ _ _. ⊤ };
 
-    // Reads one trial and makes its comparisons. None where the bytes are no whole trial.
+    // Reads one trial and makes its comparisons. None where the bytes are no whole trial, or none that can be made.
     fn run(input: &mut TrialInput<'_>) -> Option<Count>
         ensures gives { run_gives input.old result input.new }
         ensures reads { OnSome result (length input.new < length input.old) };

@@ -43,7 +43,7 @@ fn read_answer(input: &mut TrialInput<'_>) -> Option<Result<(), Told>>
     })
 }
 
-// A duct in four numbers: its ends, its length and its bore.
+// A duct in four numbers: its ends, its length and its bore, if they fit.
 fn read_duct(input: &mut TrialInput<'_>) -> Option<Duct>
     ensures { length input.new ≤ length input.old }
 {
