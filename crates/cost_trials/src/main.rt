@@ -13,6 +13,7 @@ mod cost_trial;
 #[cfg(test)]
 mod searches;
 
+// What this shares with the other program of trials is in trial_parts; the lines that it prints are its own.
 fn main(rt: HostRuntime) -> io::Result<()> {
     let mut bytes = Vec::new(rt.alloc());
     rt.stdin().read_to_end(&mut bytes)?;

@@ -26,7 +26,7 @@ fn searched<M: Measure>(plan: &Plan, allowed: &[bool], goal: u16) -> Result<Tabl
     Ok(table)
 }
 
-// A refusal with this number. The crate trials has a like helper: both need Abort, which no library may take.
+// A refusal with this number, as the rules have it. The crate trials has a like helper: both need Abort, which no library may take.
 fn refused<T: Drop>(rt: &impl Abort, answer: Result<T, Refusal>, number: u8) -> Result<(), Fail> {
     let Err(refusal) = answer else {
         return Err(Fail::new("accepted"));

@@ -29,7 +29,7 @@ impl Duct {
         bore: 0,
     };
 
-    // Whether the duct joins the pits `a` and `b`, either way round.
+    // Whether the duct joins the pits `a` and `b`, either way round. A pair of pits is no type: the rules name two pits.
     pub fn joins(&self, a: u16, b: u16) -> bool
         ensures { result ≡ joins self.now a b }
     {

@@ -39,7 +39,8 @@ fn check_sizes(bytes: &[u8]) -> Result<Sizes, Refusal>
 }
 
 // The plan of a file, or the first rule that the file breaks: questions 1 to 4, then 5 to 8 on each duct in turn. The array is the
-// plan's own, filled in place: no public call asks anything, so `Plan::push` is private. The first repeat breaks both loops.
+// plan's own, filled in place: no public call asks anything, so `Plan::push` is private. The earlier ducts are gone through by a
+// loop in the loop, and by no `any`: the project asks for this form, left by a labelled break at the first repeat.
 fn parse(bytes: &[u8]) -> Result<Plan, Refusal>
     ensures { heard_plan result ≡ decode bytes.now }
 {

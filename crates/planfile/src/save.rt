@@ -45,6 +45,7 @@ fn put_file(plan: &Plan, buffer: &mut [u8])
     let mut front = Writer::new(front);
     let mut sizes = Writer::new(second);
     front.put(plan.pit_count().to_le_bytes());
+    // proved to fit: an error of `try_from` could not come
     front.put((ducts.len() as u16).to_le_bytes());
     put_ducts(ducts, &mut front, &mut sizes);
 }

@@ -64,6 +64,7 @@ fn best_in<M: Measure>(marks: &[Mark], block: usize) -> Option<SeenPit>
     let start = BLOCK * block;
     let mut best = None;
     for pit in start..start + BLOCK {
+        // proved to fit: an error of `try_from` could not come
         best = better::<M>(best, open_at(marks, pit as u16));
     }
     best

@@ -30,6 +30,7 @@ fn index(plan: &Plan) -> IndexedPlan
 {
     let mut index = Index::new();
     for (i, duct) in plan.ducts().iter().enumerate() {
+        // proved to fit: an error of `try_from` could not come
         index.put(i as u16, *duct);
     }
     IndexedPlan { plan: *plan, index }

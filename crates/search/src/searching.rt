@@ -18,6 +18,7 @@ use plan::refusals::Refusal;
 // it is, and past the end none is. Afterwards the table holds the best cost from each pit that such a way joins to the goal, and a
 // written way of that cost; the other pits it does not reach. A goal that is off the plan is refused with 11, and the table stays.
 // Places of the table that the plan does not need stay too. What is proved of best costs in general stands here too.
+// The plan, the allowed pits and the goal are what a caller names, so they are no struct.
 pub fn search<M: Measure>(
     indexed: &IndexedPlan,
     allowed: &[bool],

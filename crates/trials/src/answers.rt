@@ -3,7 +3,7 @@ use plan::refusals::{Figures, Refusal};
 use std::process::Abort;
 use std::test::Fail;
 
-// A refusal has this number and these figures.
+// A refusal has this number and these figures. The rules give the numbers, and the tests hold the enum against them.
 pub(crate) fn tells(rt: &impl Abort, refusal: Refusal, number: u8, first: u32, second: u32) {
     assert_eq!(rt; refusal.number(), number);
     assert_eq!(rt; refusal.figures(), Figures { first, second });

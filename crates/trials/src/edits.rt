@@ -60,7 +60,7 @@ fn the_duct_between_two_pits(rt: HostRuntime) -> Result<(), Fail> {
     Ok(())
 }
 
-// The plan of 512 pits with 1,024 ducts: each pit joined to the next, to the one after that, and 3 more.
+// The plan of 512 pits with 1,024 ducts: each pit joined to the next, to the one after that, and 3 more. The loops go over pits.
 fn largest() -> Result<Plan, Fail> {
     let mut plan = loaded(&[0, 2, 0, 0])?;
     for i in 0..511 {
