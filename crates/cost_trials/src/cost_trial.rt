@@ -1,5 +1,5 @@
 // A cost trial: a plan searched, and the costs compared with those of NetworkX. The ways are written out and costed too.
-ghost use Rattle.std.specs.Prelude.{◌≤◌, length};
+ghost use Rattle.std.specs.Prelude.{◌≤◌, length, IfSome};
 
 use measure::{Bore, Length, Measure};
 use plan::plans::Plan;
@@ -80,7 +80,9 @@ fn try_goal<M: Measure>(
     allowed: &[bool],
     goal: u16,
     costs: &[u8],
-) -> Option<Count> {
+) -> Option<Count>
+    ensures { IfSome result (λ count. count.agreed ≤ count.tried) }
+{
     let pits = indexed.plan.pit_count();
     let searched = Searched::<M>::new(indexed, allowed, goal)?;
     let (costs, _) = costs.as_chunks();
@@ -121,7 +123,9 @@ fn read_question<'a>(input: &mut TrialInput<'a>, pits: u16) -> Option<Question<'
 }
 
 // Asks one question, by both measures.
-fn try_question(indexed: &IndexedPlan, question: Question<'_>) -> Option<Count> {
+fn try_question(indexed: &IndexedPlan, question: Question<'_>) -> Option<Count>
+    ensures { IfSome result (λ count. count.agreed ≤ count.tried) }
+{
     let allowed: [bool; PLACES] = array::from_fn(|pit| question.allowed.get(pit) == Some(&1));
     let mut count = try_goal::<Length>(indexed, &allowed, question.goal, question.lengths)?;
     count += try_goal::<Bore>(indexed, &allowed, question.goal, question.bores)?;
@@ -129,6 +133,9 @@ fn try_question(indexed: &IndexedPlan, question: Question<'_>) -> Option<Count> 
 }
 
 impl Trial for CostTrial {
+    // no more costs agree than were compared
+    ghost run_gives = { λ _ r _. IfSome r (λ count. count.agreed ≤ count.tried) };
+
     fn run(input: &mut TrialInput<'_>) -> Option<Count> {
         let plan = loaded(input.file()?).ok()?;
         let questions = input.number()?;

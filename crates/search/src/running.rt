@@ -41,7 +41,7 @@ impl<'a, M: Measure> Running<'a, M> {
         self.frontier.best::<M>()
     }
 
-    // Gives a pit a mark. That the pit has one is asked for: it is about this one pit.
+    // Gives a pit another mark. That it has one is no fact of the type, as it is about this one pit.
     pub(crate) fn put(&mut self, pit: u16, mark: Mark)
         requires { pit < length self.old.marks.now }
         ensures same_reference { self.new.marks.ghost_name ≡ self.old.marks.ghost_name }

@@ -1,4 +1,4 @@
-ghost use Rattle.std.specs.Prelude.{◌≡◌, ◌<◌, ◌↔◌, ℕ, List, [], length, Option, IsTrue, OnSome, ⊤};
+ghost use Rattle.std.specs.Prelude.{◌≡◌, ◌<◌, ◌↔◌, ℕ, List, [], length, Option, IsTrue, OnSome};
 ghost use Rattle.trial_parts.specs.declared.count.Count.{Count};
 ghost use Rattle.std.specs.Iterator.{at_most};
 ghost use Rattle.trial_parts.specs.Trials.{NextTrial};
@@ -9,8 +9,8 @@ use std::marker::{Model, PhantomData};
 
 // A trial: what a program reads from the front of its input, again and again, to compare two answers.
 pub trait Trial {
-    // Holds of the bytes before a trial, its count, and the bytes that it leaves.
-    ghost run_gives: { List ℕ → Option Count → List ℕ → Type 0 } = { λ _ _ _. ⊤ };
+    // What holds of the bytes before a trial, its count, and the bytes that it leaves.
+    ghost run_gives: { List ℕ → Option Count → List ℕ → Type 0 };
 
     // Reads one trial and makes its comparisons. None where the bytes are no whole trial, or none that can be made.
     fn run(input: &mut TrialInput<'_>) -> Option<Count>

@@ -1,5 +1,5 @@
 // A file trial: a plan file, good or damaged, and what the model says of it.
-ghost use Rattle.std.specs.Prelude.{◌≤◌, length};
+ghost use Rattle.std.specs.Prelude.{◌≡◌, ◌≤◌, length, IfSome};
 
 use plan::ducts::Duct;
 use plan::plans::Plan;
@@ -82,6 +82,9 @@ fn saves_as(plan: &Plan, file: &[u8]) -> bool {
 
 // Loads the file over the blank plan, and compares the answer with the model's. A refused file has to leave the blank plan.
 impl Trial for FileTrial {
+    // one file is tried
+    ghost run_gives = { λ _ r _. IfSome r (λ count. (count.tried ≡ 1) × (count.agreed ≤ 1)) };
+
     fn run(input: &mut TrialInput<'_>) -> Option<Count> {
         let file = input.file()?;
         let expected = read_answer(input)?;
