@@ -8,7 +8,6 @@ use search::indexed::IndexedPlan;
 use search::marks::PLACES;
 use search::searching;
 use search::table::Table;
-use std::array;
 use std::marker::PhantomData;
 use trial_parts::count::Count;
 use trial_parts::input::TrialInput;
@@ -29,20 +28,25 @@ fn cost_in(bytes: [u8; 4]) -> Option<u32> {
     }
 }
 
-// A search that was made by a measure: the plan, the goal, and the table that it filled.
+// A search that was made by a measure: the plan, the goal, and the table that it filled. The table is lent, since a copy of it for
+// each search takes longer than the search of a small plan.
 #[derive(Drop)]
 struct Searched<'a, M> {
     plan: &'a Plan,
     goal: u16,
-    table: Table,
+    table: &'a Table,
     measure: PhantomData<M>,
 }
 
 impl<'a, M: Measure> Searched<'a, M> {
     // Searches a plan for the ways to a goal.
-    fn new(indexed: &'a IndexedPlan, allowed: &[bool], goal: u16) -> Option<Self> {
-        let mut table = Table::new();
-        searching::search::<M>(indexed, allowed, goal, &mut table).ok()?;
+    fn new(
+        indexed: &'a IndexedPlan,
+        allowed: &[bool],
+        goal: u16,
+        table: &'a mut Table,
+    ) -> Option<Self> {
+        searching::search::<M>(indexed, allowed, goal, table).ok()?;
         Some(Searched {
             plan: &indexed.plan,
             goal,
@@ -84,7 +88,8 @@ fn try_goal<M: Measure>(
     ensures { IfSome result (λ count. count.agreed ≤ count.tried) }
 {
     let pits = indexed.plan.pit_count();
-    let searched = Searched::<M>::new(indexed, allowed, goal)?;
+    let mut table = Table::new();
+    let searched = Searched::<M>::new(indexed, allowed, goal, &mut table)?;
     let (costs, _) = costs.as_chunks();
     let agreed = (0..pits)
         .zip(costs)
@@ -126,7 +131,10 @@ fn read_question<'a>(input: &mut TrialInput<'a>, pits: u16) -> Option<Question<'
 fn try_question(indexed: &IndexedPlan, question: Question<'_>) -> Option<Count>
     ensures { IfSome result (λ count. count.agreed ≤ count.tried) }
 {
-    let allowed: [bool; PLACES] = array::from_fn(|pit| question.allowed.get(pit) == Some(&1));
+    let mut allowed = [false; PLACES];
+    for (place, flag) in allowed.iter_mut().zip(question.allowed) {
+        *place = *flag == 1;
+    }
     let mut count = try_goal::<Length>(indexed, &allowed, question.goal, question.lengths)?;
     count += try_goal::<Bore>(indexed, &allowed, question.goal, question.bores)?;
     Some(count)
