@@ -55,10 +55,12 @@ fn fill<M: Measure>(plan: &AllowedPlan, goal: u16, marks: &mut [Mark])
     requires below { goal < length marks.old }
     ensures { Filled (read M.Measure.means) plan.now.allowed.now (plan_in plan.now.indexed.now) goal marks.new }
 {
-    let mut running = Running::<M>::new(marks);
+    // asked first: a frontier takes longer to make than the marks of a few pits
     if !plan.is_allowed(goal) {
+        marks.fill(Mark::Unseen);
         return;
     }
+    let mut running = Running::<M>::new(marks);
     running.put(goal, Mark::Open(goal_route::<M>(goal)));
     while let Some(from) = running.best() {
         running.turn(plan, from);

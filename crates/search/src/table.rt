@@ -83,9 +83,10 @@ impl Table {
         requires { is_settled (at (marks_of self.now) here) ≡ true }
         ensures { result ≡ (route_at (marks_of self.now) here).next }
     {
-        match self.mark(here) {
-            Some(Mark::Settled(route)) => route.next,
-            Some(Mark::Unseen | Mark::Open(_)) | None => unreachable!(),
+        // a place that is proved to be there: `mark` would test it at each step
+        match self.marks[here as usize] {
+            Mark::Settled(route) => route.next,
+            Mark::Unseen | Mark::Open(_) => unreachable!(),
         }
     }
 

@@ -33,8 +33,8 @@ loop-from-preserved g c =
 
 pub returns-then-not-is_allowed : goal.returns-then-not-is_allowed
 returns-then-not-is_allowed g c =
-    let filled = run_off g.M.Measure.means g.met.M.Measure.keeps c.args.plan.now.allowed.now c.args.plan.now.indexed.now.plan c.args.goal (length c.args.marks.now) c.new-running.result.marks.now
-    c.new-running.ensures.marks c.requires.size c.requires.below (sym c.is_allowed.ensures ∙ c.if-not-is_allowed.true) in
+    let filled = run_off g.M.Measure.means g.met.M.Measure.keeps c.args.plan.now.allowed.now c.args.plan.now.indexed.now.plan c.args.goal (length c.args.marks.now) c.fill.new.self
+    (c.fill.ensures.after (λ y e. e)) c.requires.size c.requires.below (sym c.is_allowed.ensures ∙ c.if-not-is_allowed.true) in
     search rules
 
 pub returns : goal.returns
