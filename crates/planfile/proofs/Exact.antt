@@ -97,7 +97,7 @@ as_plan_lem n (Ok ds) p h =
 as_plan_lem n (Err e) p h = not_both h
 
 -- the file again, from what was read of it
-file_again :
+pub file_again :
     (bs : List ℕ) (n : ℕ) → Bytes bs → length bs ≡ file_size n → n ≡ two bs 2
     → two_of (two bs 0) ++ two_of n ++ flat_map ends_of (ducts_in bs n) ++ flat_map sizes_of (ducts_in bs n) ≡ bs
 file_again bs n fit exact count =

@@ -5,7 +5,7 @@ use Rattle.std.proofs.lemmas.List.{length-append, length-take-le, take_at, drop-
 use Rattle.planfile.specs.Words.{over}
 
 -- two parts, one after the other
-over-over :
+pub over-over :
     (bs xs ys : List ℕ) (at n : ℕ) → at + length xs ≤ length bs → at + length xs ≡ n → over (over bs at xs) n ys ≡ over bs at (xs ++ ys)
 over-over bs xs ys at n h e =
     let front : length (take at bs ++ xs) ≡ n = length-append (take at bs) xs ∙ ap (λ k. k + length xs) (length-take-le at bs (omega arith)) ∙ e in

@@ -1,4 +1,4 @@
--- The best open pit: of a block, one pit more; of all blocks, one block more; and where one mark changes.
+-- The best open pit: of a block, one pit more; of all blocks, one block more.
 use Rattle.std.proofs.Common.{◌≡◌, ℕ, ◌+◌, ◌*◌, ◌<◌, ◌≤◌, true, false, List, length, replicate, Some, None, Option, refl, inl, inr, arith}
 use Rattle.std.proofs.lemmas.List.{get_or-replicate}
 use Rattle.std.proofs.lemmas.Bool.{both_ways, cases_lt, cond_both, false_from_ne_true}

@@ -5,7 +5,7 @@ use Rattle.search.specs.declared.marks.Mark.{Mark}
 use Rattle.search.proofs.searching.run.Goals as goal
 
 -- marks filled in at the front of a table
-filled_length : (n : ℕ) (ms new : List Mark) → length new ≡ n → n ≤ length ms → length (new ++ drop (n - 0) ms) ≡ length ms
+pub filled_length : (n : ℕ) (ms new : List Mark) → length new ≡ n → n ≤ length ms → length (new ++ drop (n - 0) ms) ≡ length ms
 filled_length n ms new size l = length-append new (drop (n - 0) ms) ∙ simp length-drop (omega arith)
 
 pub invariant_of-table : goal.invariant_of-table
