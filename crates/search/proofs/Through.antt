@@ -13,7 +13,7 @@ use Rattle.ways.proofs.Bests.{row_is_best, one_best}
 use Rattle.search.specs.declared.marks.Mark.{Mark}
 use Rattle.search.specs.declared.marks.Mark.TheVariants.{Unseen}
 use Rattle.search.specs.Allowed.{is_allowed, restricted, WayThrough, AllAllowed}
-use Rattle.search.specs.Marks.{at, cost_at, route, Linked, Brief}
+use Rattle.search.specs.Marks.{at, cost_at, route, Linked, Brief, Follows}
 use Rattle.search.specs.Searched.{SearchedWhole, Searched}
 use Rattle.search.specs.Steps.{none_seen}
 use Rattle.search.proofs.Ends.{at_none}
@@ -102,3 +102,6 @@ module _ (n : ℕ) (ms : List Mark) (is : ms ≡ none_seen n) where
 
   pub unseen-brief : Brief ms
   unseen-brief v h = absurd (both_ways false refl (rw (at-unseen v) at h))
+
+  pub unseen-follows : (ns : List ℕ) → Follows ms ns
+  unseen-follows ns v h = absurd (both_ways false refl (rw (at-unseen v) at h))

@@ -64,3 +64,7 @@ Linked ms = (v : ℕ) → goes_on ms v ≡ true → nearer ms (route_at ms v).ne
 -- a way has fewer ducts than the plan has pits
 abbrev pub Brief : List Mark → Type 0
 Brief ms = (v : ℕ) → is_settled (at ms v) ≡ true → (route_at ms v).hops < length ms
+
+-- the list has, in the place of each pit that was reached, the next pit of its way
+abbrev pub Follows : List Mark → List ℕ → Type 0
+Follows ms ns = (v : ℕ) → is_settled (at ms v) ≡ true → slice_index_or ns v 0 ≡ (route_at ms v).next

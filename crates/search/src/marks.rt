@@ -1,3 +1,6 @@
+ghost use Rattle.std.specs.Prelude.{◌≡◌, ◌≤◌, length};
+ghost use Rattle.search.specs.Marks.{route_of, Follows};
+
 use plan::limits::MAX_PITS;
 
 // How many places a table has, one for each pit of the largest plan.
@@ -21,6 +24,28 @@ pub enum Mark {
     Open(Route),
     // its best way is known
     Settled(Route),
+}
+
+impl Mark {
+    // The next pit of the way that a mark has; 0 for a pit that was not seen.
+    fn next_pit(self) -> u16
+        ensures { result ≡ (route_of self).next }
+    {
+        match self {
+            Mark::Unseen => 0,
+            Mark::Open(route) | Mark::Settled(route) => route.next,
+        }
+    }
+}
+
+// Puts the next pit of each pit that was reached into a list of its own, where a way is read without a look at the marks.
+pub(crate) fn put_next_pits(marks: &[Mark], next_pits: &mut [u16])
+    requires { length marks.now ≤ length next_pits.old }
+    ensures { Follows marks.now next_pits.new }
+{
+    for (i, mark) in marks.iter().enumerate() {
+        next_pits[i] = mark.next_pit();
+    }
 }
 
 // A pit that was seen, with the way that was seen from it.

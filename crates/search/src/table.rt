@@ -2,7 +2,7 @@
 ghost use Rattle.std.specs.Prelude.{◌≡◌, ◌<◌, ◌≤◌, true, [], ◌++◌, length, take, drop, MatchOption};
 ghost use Rattle.plan.specs.Refusals.{heard};
 ghost use Rattle.search.specs.declared.marks.Mark.TheVariants.{Settled};
-ghost use Rattle.search.specs.Marks.{at, is_settled, route_at, route, Linked, Brief};
+ghost use Rattle.search.specs.Marks.{at, is_settled, route_at, route, Linked, Brief, Follows};
 
 use crate::marks::{Mark, PLACES, SeenPit};
 use plan::refusals::Refusal;
@@ -13,10 +13,14 @@ use plan::refusals::Refusal;
 pub struct Table {
     pub(crate) pits: u16,
     pub(crate) marks: [Mark; PLACES],
+    // the next pit of each pit that was reached, once more: a step along a way reads it here, and matches no mark
+    pub(crate) next_pits: [u16; PLACES],
     ghost few: { pits ≤ 512 },
     ghost places: { length marks ≡ 512 },
+    ghost next_places: { length next_pits ≡ 512 },
     ghost linked: { Linked (take pits marks) },
     ghost brief: { Brief (take pits marks) },
+    ghost follows: { Follows (take pits marks) next_pits },
 }
 
 impl Table {
@@ -29,6 +33,7 @@ impl Table {
         Table {
             pits: 0,
             marks: [Mark::Unseen; PLACES],
+            next_pits: [0; PLACES],
         }
     }
 
@@ -83,11 +88,8 @@ impl Table {
         requires { is_settled (at (marks_of self.now) here) ≡ true }
         ensures { result ≡ (route_at (marks_of self.now) here).next }
     {
-        // a place that is proved to be there: `mark` would test it at each step
-        match self.marks[here as usize] {
-            Mark::Settled(route) => route.next,
-            Mark::Unseen | Mark::Open(_) => unreachable!(),
-        }
+        // a pit that was reached has its place, so nothing is tested at each step
+        self.next_pits[here as usize]
     }
 
     // The mark of a pit, if it is on the plan.

@@ -1,7 +1,7 @@
 use Rattle.std.proofs.Common.{◌≡◌}
 use Rattle.search.proofs.Inv.{left}
 use Rattle.search.proofs.Runs.{Turning}
-use Rattle.search.proofs.searching.fill.Given as goal
+use Rattle.search.proofs.searching.settle_all.Given as goal
 
 abbrev pub invariant-loop-from : goal.invariant-loop-from
 invariant-loop-from g l = record {
