@@ -38,7 +38,7 @@ impl Mark {
     }
 }
 
-// Puts the next pit of each pit that was reached into a list of its own, where a way is read without a look at the marks.
+// Puts the next pit of each mark into a list of its own, where a way is read without a look at the marks.
 pub(crate) fn put_next_pits(marks: &[Mark], next_pits: &mut [u16])
     requires { length marks.now ≤ length next_pits.old }
     ensures { Follows marks.now next_pits.new }

@@ -49,7 +49,7 @@ fn run<M: Measure>(plan: &AllowedPlan, goal: u16, table: &mut Table)
 {
     let pits = plan.indexed.plan.pits;
     table.pits = pits;
-    // `0..pits` and not `..pits`, which the borrow checker does not cover here
+    // `0..pits` and not `..pits`, which Rattle's borrow checker does not cover here
     fill::<M>(
         plan,
         goal,
